@@ -1,0 +1,4 @@
+pub mod Laws
+pub mod Signed
+pub mod Units
+pub mod Parts

@@ -1,0 +1,4 @@
+pub mod SplitMix
+pub mod Draws
+pub mod Gen
+pub mod Many
