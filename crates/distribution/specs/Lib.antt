@@ -1,2 +1,4 @@
 pub mod Dims
+pub mod Good
 pub mod Refusals
+pub mod Validate
