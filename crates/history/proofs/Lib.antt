@@ -1,2 +1,4 @@
 pub mod Places
 pub mod Scans
+pub mod Meaning
+pub mod Called
