@@ -2,3 +2,4 @@ pub mod Places
 pub mod Scans
 pub mod Meaning
 pub mod Called
+pub mod While

@@ -1,7 +1,7 @@
 -- What a scan gathers, said of the history as a whole. Entries that cannot matter are left out without loss (`nothing-lost`); then by induction on the history, place by place.
-use mathlib.Core.Path.{_≡_, refl, sym, ap, ap₂, _∙_, subst}
+use mathlib.Core.Path.{_≡_, refl, sym, ap, _∙_}
 use mathlib.Core.Logic.{_≢_}
-use Prim.Native.Nat.{ℕ, suc, _<_, _≤_}
+use Prim.Native.Nat.{ℕ, _<_, _≤_}
 use native.Mathlib.Omega.{arith}
 use mathlib.Core.Bool.{Bool, true, false, _&&_, _||_, cond, true≢false}
 use mathlib.Core.List.{List, [], _∷_, _++_}
@@ -9,24 +9,22 @@ use mathlib.Core.Option.{Option, none, some}
 use lib.Dec.{eqb, ltb, leb}
 use lib.Ieee.{Float, nan, isNan}
 use lib.ListN.{length, getD}
-use borrow.Author.Tests.{ltb-true, leb-true, le-leb, ne-eqb, eqb-true}
+use borrow.Author.Tests.{ltb-true, le-leb, ne-eqb}
 use Rattle.history.specs.Entry.{isBad, countedValue}
-use Rattle.history.specs.Scan.{places, wants, putWhere, absorbed, gatheredAll, mayMatter, gathered}
+use Rattle.history.specs.Scan.{wanted, numberAt, Within, wanting, putWhere, absorbed, mayMatter, gathered, gatheredAll}
 use Rattle.history.specs.History.{anyNan, hasNumber, latest, lastOf, lastValue, valueIf}
 use Rattle.history.specs.declared.CompletedTrial.{CompletedTrial}
 use Rattle.history.specs.declared.Gathered.{Gathered}
 use Rattle.history.proofs.Places.{put-none, put-length, put-at, wants-in}
 
--- how many numbers are wanted, and the number that place i wants
-abbrev pub wanted : Gathered → ℕ
-wanted g = places (g .n)
+-- ---- what one entry stores
+found-stored : (g : Gathered) (e : CompletedTrial) → absorbed g e .found ≡ putWhere (wanting g e) true (g .found)
+unfolding absorbed
+found-stored g e = refl
 
-abbrev pub numberAt : Gathered → ℕ → ℕ
-numberAt g i = getD (g .numbers) i 0
-
--- each wanted number is from lo to hi
-abbrev pub Within : ℕ → ℕ → Gathered → Type 0
-Within lo hi g = (i : ℕ) → i < wanted g → (lo ≤ numberAt g i) × (numberAt g i ≤ hi)
+values-stored : (g : Gathered) (e : CompletedTrial) → absorbed g e .values ≡ putWhere (wanting g e) (countedValue e) (g .values)
+unfolding absorbed
+values-stored g e = refl
 
 -- ---- an entry that cannot matter
 -- it is not bad, and no number from lo to hi is its
@@ -47,7 +45,7 @@ module _ (lo hi : ℕ) (e : CompletedTrial) (w : mayMatter lo hi e ≡ false) wh
       inside = rw (le-leb lo (e .number) (omega arith), le-leb (e .number) hi (omega arith))
 
   -- no place wants its number
-  no-place : (g : Gathered) → Within lo hi g → (i : ℕ) → wants (wanted g) (g .numbers) (e .number) i ≡ false
+  no-place : (g : Gathered) → Within lo hi g → (i : ℕ) → wanting g e i ≡ false
   no-place g in-range i = go (ltb i (wanted g)) refl
     where
       go : (b : Bool) → ltb i (wanted g) ≡ b → (b && eqb (e .number) (numberAt g i)) ≡ false
@@ -56,7 +54,7 @@ module _ (lo hi : ℕ) (e : CompletedTrial) (w : mayMatter lo hi e ≡ false) wh
 
   left-out : (g : Gathered) → Within lo hi g → absorbed g e ≡ g
   unfolding absorbed
-  left-out g in-range = rw (not-bad, put-none true (wants (wanted g) (g .numbers) (e .number)) (g .found) (no-place g in-range), put-none (countedValue e) (wants (wanted g) (g .numbers) (e .number)) (g .values) (no-place g in-range))
+  left-out g in-range = rw (not-bad, put-none true (wanting g e) (g .found) (no-place g in-range), put-none (countedValue e) (wanting g e) (g .values) (no-place g in-range))
 
 -- ---- where every wanted number is from lo to hi, the scan is that of every entry
 still-within : (lo hi : ℕ) (g : Gathered) (e : CompletedTrial) → Within lo hi g → Within lo hi (absorbed g e)
@@ -88,14 +86,14 @@ gathered-nan lo hi (e ∷ es) g = gathered-nan lo hi es (cond (mayMatter lo hi e
     by-case false w = sym (ap (λ (b : Bool). b || g .nan) (not-bad lo hi e w))
 
 -- ---- place by place: f is `found` or `values`, and give what an entry puts there
-module _ {A : Type 0} (f : Gathered → List A) (give : CompletedTrial → A) (stores : (g : Gathered) (e : CompletedTrial) → f (absorbed g e) ≡ putWhere (wants (wanted g) (g .numbers) (e .number)) (give e) (f g)) where
+module _ {A : Type 0} (f : Gathered → List A) (give : CompletedTrial → A) (stores : (g : Gathered) (e : CompletedTrial) → f (absorbed g e) ≡ putWhere (wanting g e) (give e) (f g)) where
   absorbed-at : (g : Gathered) (e : CompletedTrial) (i : ℕ) (d : A) → i < wanted g → i < length (f g) → getD (f (absorbed g e)) i d ≡ cond (eqb (e .number) (numberAt g i)) (give e) (getD (f g) i d)
   absorbed-at g e i d l s =
-      ap (λ (xs : List A). getD xs i d) (stores g e) ∙ put-at (give e) (wants (wanted g) (g .numbers) (e .number)) (f g) i d s
+      ap (λ (xs : List A). getD xs i d) (stores g e) ∙ put-at (give e) (wanting g e) (f g) i d s
       ∙ ap (λ (b : Bool). cond b (give e) (getD (f g) i d)) (wants-in (g .numbers) (e .number) (wanted g) i l)
 
   as-long : (g : Gathered) (e : CompletedTrial) → length (f (absorbed g e)) ≡ length (f g)
-  as-long g e = ap length (stores g e) ∙ put-length (give e) (wants (wanted g) (g .numbers) (e .number)) (f g)
+  as-long g e = ap length (stores g e) ∙ put-length (give e) (wanting g e) (f g)
 
   all-at : (h : List CompletedTrial) (g : Gathered) (i : ℕ) (d : A) → i < wanted g → i < length (f g) → getD (f (gatheredAll h g)) i d ≡ latest give (numberAt g i) h (getD (f g) i d)
   unfolding gatheredAll latest absorbed
@@ -113,14 +111,6 @@ module _ {A : Type 0} (f : Gathered → List A) (give : CompletedTrial → A) (s
       by-case : (t : Bool) → length (f (cond t (absorbed g e) g)) ≡ length (f g)
       by-case true = as-long g e
       by-case false = refl
-
-found-stored : (g : Gathered) (e : CompletedTrial) → absorbed g e .found ≡ putWhere (wants (wanted g) (g .numbers) (e .number)) true (g .found)
-unfolding absorbed
-found-stored g e = refl
-
-values-stored : (g : Gathered) (e : CompletedTrial) → absorbed g e .values ≡ putWhere (wants (wanted g) (g .numbers) (e .number)) (countedValue e) (g .values)
-unfolding absorbed
-values-stored g e = refl
 
 -- `latest` of true is whether the number stands anywhere
 latest-true : (m : ℕ) (h : List CompletedTrial) (b : Bool) → latest (λ _. true) m h b ≡ (hasNumber m h || b)

@@ -1,11 +1,12 @@
 -- What both scans go by: the scan of what is left, from what is gathered so far, is the scan of all. And the entries that two slices make.
-use mathlib.Core.Path.{_≡_, refl, sym, ap, _∙_}
+use mathlib.Core.Path.{_≡_, refl, sym, ap, _∙_, subst}
 use Prim.Native.Nat.{ℕ, zero, suc, _+_, _≤_, _<_, min}
 use native.Mathlib.Nat.{not-suc-le-zero, le-of-suc-le-suc}
 use native.Mathlib.Numerals.{add-one}
 use native.Mathlib.Omega.{arith}
-use mathlib.Core.Bool.{cond}
+use mathlib.Core.Bool.{Bool, true, false, not, cond}
 use mathlib.Core.List.{List, [], _∷_}
+use lib.Dec.{T}
 use lib.Ieee.{Float, nan}
 use lib.ListN.{length, getD, drop, drop-of-length-le}
 use lib.Seq.{drop-cons}
@@ -27,6 +28,15 @@ module _ (lo hi : ℕ) (h : List CompletedTrial) (all : Gathered) (i : ℕ) (g :
   pub scan-done : length h ≤ i → gathered lo hi (drop i h) g ≡ all → g ≡ all
   unfolding gathered
   scan-done l e = sym (ap (λ (es : List CompletedTrial). gathered lo hi es g) (drop-of-length-le h l)) ∙ e
+
+-- the code's test t went as the definition's, m
+pub took : (t m : Bool) (a b : Gathered) → T t → t ≡ m → a ≡ cond m a b
+took t true a b z e = refl
+took t false a b z e = absurd (subst T e z)
+
+pub passed : (t m : Bool) (a b : Gathered) → T (not t) → t ≡ m → b ≡ cond m a b
+passed t true a b z e = absurd (subst (λ (u : Bool). T (not u)) e z)
+passed t false a b z e = refl
 
 pub trials-length : (ns : List ℕ) (vs : List Float) → length (trialsOf ns vs) ≡ min (length ns) (length vs)
 unfolding trialsOf

@@ -77,7 +77,13 @@ pub fn may_matter(lo: u64, hi: u64, entry: CompletedTrial) -> bool
 }
 
 // The scan over plain slices, a number and a value for each entry: where one is longer its rest is no entry.
-pub fn gather_slices(numbers: &[u64], values: &[f64], lo: u64, hi: u64, from: Gathered) -> Gathered
+pub fn gather_slices<'a>(
+    numbers: &'a [u64],
+    values: &'a [f64],
+    lo: u64,
+    hi: u64,
+    from: Gathered,
+) -> Gathered
     ensures { λ r. ⌜ r ≡ gathered lo hi (trialsOf (now (numbers .entry)) (now (values .entry))) from ⌝ }
 {
     let mut g = from;
