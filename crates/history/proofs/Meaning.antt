@@ -143,7 +143,7 @@ last-entry m h e = go h none
     go [] o = refl
     go (x ∷ xs) o = go xs (cond (eqb (x .number) m) (some (countedValue x)) o)
 
--- what refusal 8 is not for counts as a number
+-- an entry that refusal 8 is not for does not count as NaN
 pub counted-not-nan : (e : CompletedTrial) → isBad e ≡ false → countedValue e ≢ nan
 unfolding isBad countedValue isNan
 counted-not-nan e w z = true≢false (sym (ap isNan z) ∙ w)
