@@ -1,0 +1,5 @@
+pub mod Places
+pub mod Scans
+pub mod Meaning
+pub mod Called
+pub mod While

@@ -1,0 +1,3 @@
+pub mod Entry
+pub mod Scan
+pub mod History
