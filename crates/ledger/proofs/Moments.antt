@@ -7,7 +7,7 @@ use Rattle.ledger.specs.Assignment.{Accepted}
 use Rattle.ledger.specs.Soundness.{Sound}
 use Rattle.ledger.specs.Sample.{stateRefusal, accept, outcome, step, sample, elevenAt}
 use Rattle.ledger.specs.Ledger.{Ledger, empty, refusalOf, accepted, unlessRefused, enterCall}
-use Rattle.ledger.specs.Run.{Sampler, Point, Moment, moment, ran, definedResult, tableRefusal, after, start, Meets}
+use Rattle.ledger.specs.Run.{Sampler, Point, Moment, moment, ran, definedResult, tableRefusal, after, start, viewed, Meets}
 use Rattle.ledger.specs.Claim.{refusalIn, settingIn, LedgerCloses, SamplerCloses, HandedBack}
 use Rattle.ledger.proofs.Lists.{none≢some, neither, not-refused}
 use Rattle.ledger.proofs.Sound.{accept-sound, fresh-sound}
@@ -90,14 +90,14 @@ module _ (K : Kernel) where
         r : Shown ms (p .defined) (p .ledger) c (h .inv) (h .sound) (h .seen) (sample K S (p .defined) c) (tableRefusal K X S m)
         r = shown ms (p .defined) (p .ledger) c (h .inv) (h .sound) (h .seen)
 
-        answer : (ran K X m) .answer ≡ (definedResult K X S m) .answer
-        answer = meets .same-answer (p .state) c (h .clean) ∙ ap (λ (s : State K). (sample K S s c) .answer) (h .agrees)
+        result : viewed K X (ran K X m) ≡ definedResult K X S m
+        result = meets .call-view (p .state) c (h .clean) ∙ ap (λ (s : State K). sample K S s c) (h .agrees)
 
-        draws : (ran K X m) .draws ≡ (definedResult K X S m) .draws
-        draws = meets .same-draws (p .state) c (h .clean) ∙ ap (λ (s : State K). (sample K S s c) .draws) (h .agrees)
+        answer : (ran K X m) .answer ≡ (definedResult K X S m) .answer
+        answer = ap (λ (x : Result K (State K)). x .answer) result
 
         state : X .view ((ran K X m) .state) ≡ (definedResult K X S m) .state
-        state = meets .same-state (p .state) c (h .clean) ∙ ap (λ (s : State K). (sample K S s c) .state) (h .agrees)
+        state = ap (λ (x : Result K (State K)). x .state) result
 
         clean : meets .Clean ((ran K X m) .state)
         clean = meets .call-clean (p .state) c (h .clean)
@@ -107,7 +107,7 @@ module _ (K : Kernel) where
             let b = r .back t in
             record {
               no-setting = ap (settingIn K) answer ∙ b .0;
-              no-draws = draws ∙ b .1;
+              no-draws = ap (λ (x : Result K (State K)). x .draws) result ∙ b .1;
               same-state = meets .view-whole ((ran K X m) .state) (p .state) clean (h .clean) (state ∙ (b .2 ∙ sym (h .agrees)));
             }
 

@@ -76,14 +76,20 @@ module _ (K : Kernel) where
       endFrom p [] = p
       endFrom p (c ∷ cs) = endFrom (after (moment p c)) cs
 
-  -- A sampler MEETS the definition: from states that are clean, as the new one is, to such states, a call answers, draws and does to the view what the
-  -- definition does. Of a clean state the view shows all: with unused places as in a fresh state, no two clean states have one view.
+    -- what a call returned, with the state as its view; and what a list of calls returns from a state on
+    abbrev pub viewed : Result K (X .Kept) → Result K (State K)
+    viewed r = record { answer = r .answer; draws = r .draws; state = X .view (r .state) }
+
+    unfoldable pub returnsFrom : X .Kept → List (Call K) → List (Result K (State K))
+    returnsFrom x [] = []
+    returnsFrom x (c ∷ cs) = viewed (X .call x c) ∷ returnsFrom ((X .call x c) .state) cs
+
+  -- A sampler MEETS the definition: from clean states, as the new one is, to clean states a call returns, viewed, what the definition does to the view. The
+  -- view shows a clean state whole: with "unused places .. as in a fresh state" no two clean states have one view.
   pub record Meets (X : Sampler) (S : Setup) : Type 1 where
     pub Clean : X .Kept → Type 0
     pub new-clean : Clean (X .new)
     pub call-clean : (x : X .Kept) (c : Call K) → Clean x → Clean ((X .call x c) .state)
     pub view-whole : (x y : X .Kept) → Clean x → Clean y → X .view x ≡ X .view y → x ≡ y
     pub new-view : X .view (X .new) ≡ fresh K S
-    pub same-answer : (x : X .Kept) (c : Call K) → Clean x → (X .call x c) .answer ≡ (sample K S (X .view x) c) .answer
-    pub same-draws : (x : X .Kept) (c : Call K) → Clean x → (X .call x c) .draws ≡ (sample K S (X .view x) c) .draws
-    pub same-state : (x : X .Kept) (c : Call K) → Clean x → X .view ((X .call x c) .state) ≡ (sample K S (X .view x) c) .state
+    pub call-view : (x : X .Kept) (c : Call K) → Clean x → viewed X (X .call x c) ≡ sample K S (X .view x) c
