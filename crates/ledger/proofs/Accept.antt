@@ -11,11 +11,12 @@ use Rattle.ledger.specs.Run.{Sampler, Moment, after}
 use Rattle.ledger.proofs.Lists.{some-inj, bind-some, snoc-length, length-map}
 use Rattle.ledger.proofs.Trials.{place-le, move-length}
 use Rattle.ledger.proofs.Results.{counted-is}
-use Rattle.ledger.proofs.Sound.{close-sound, closing, Assigned, assigned, begin-sound, first-named}
+use Rattle.ledger.proofs.Agree.{trial-numbers, same-first, same-row}
+use Rattle.ledger.proofs.Steps.{close-sound, closing, Assigned, assigned}
+use Rattle.ledger.proofs.Sound.{begin-sound, first-named}
 use Rattle.ledger.proofs.Invariant.{Inv, Seen}
 use Rattle.ledger.proofs.Close.{close-ok}
 use Rattle.ledger.proofs.Serve.{Done, begin-ok, discover-ok, serve-ok}
-use Rattle.ledger.proofs.Agree.{trial-numbers, same-first, same-row}
 use mathlib.Core.Path.{_≡_, refl, sym, ap, subst, _∙_}
 use mathlib.Core.Logic.{_↔_}
 use mathlib.Core.Bool.{Bool, true, false}

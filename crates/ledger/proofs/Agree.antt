@@ -2,7 +2,7 @@
 use Rattle.ledger.specs.Words.{refuseIf, has}
 use Rattle.ledger.specs.Kernel.{Kernel}
 use Rattle.ledger.specs.Call.{Call}
-use Rattle.ledger.specs.State.{numbers, State}
+use Rattle.ledger.specs.State.{numbers, cap, State}
 use Rattle.ledger.specs.Closing.{counted}
 use Rattle.ledger.specs.Sample.{discovers, stateRefusal}
 use Rattle.ledger.specs.Ledger.{isOpen, isFirst, Ledger, firstResults, ledgerRefusal}
@@ -10,19 +10,26 @@ use Rattle.ledger.specs.Claim.{placed}
 use Rattle.ledger.proofs.Lists.{length-map}
 use Rattle.ledger.proofs.Trials.{opened, placed-numbers, has-open}
 use Rattle.ledger.proofs.Results.{counted-row}
-use Rattle.ledger.proofs.Invariant.{Corr}
 use mathlib.Core.Path.{_≡_, refl, ap, ap₂, _∙_}
 use mathlib.Core.Bool.{Bool, _&&_}
-use mathlib.Core.List.{List}
+use mathlib.Core.List.{List, map}
 use mathlib.Core.Option.{Option, none, some}
-use Prim.Native.Nat.{ℕ}
+use Prim.Native.Nat.{ℕ, min}
 use lib.Dec.{leb}
 use lib.ListN.{length}
 
 module _ (K : Kernel) where
   open Kernel K using (Distribution)
 
-  pub trial-numbers : (s : State K) (l : Ledger K) → Corr K s l → numbers (s .trials) ≡ opened (l .openTrials)
+  -- the state and the ledger agree
+  pub record Corr (s : State K) (l : Ledger K) : Type 0 where
+    pub first : s .first ≡ l .first
+    pub dims : s .dims ≡ l .dims
+    pub size : s .size ≡ l .size
+    pub trials : s .trials ≡ map (placed (length (l .dims))) (l .openTrials)
+    pub closed : s .slots .closed ≡ min (length (l .generations)) cap
+
+  pub trial-numbers : (s : State K) (l : Ledger K) → Corr s l → numbers (s .trials) ≡ opened (l .openTrials)
   trial-numbers s l r = ap numbers (r .trials) ∙ placed-numbers (length (l .dims)) (l .openTrials)
 
   pub same-first : (o p : Option ℕ) (n : ℕ) → o ≡ p → discovers o n ≡ isFirst p n
@@ -33,11 +40,11 @@ module _ (K : Kernel) where
       go (some t) = refl
 
   -- the sampler counts what the ledger counts
-  pub same-row : (N : ℕ) (s : State K) (l : Ledger K) (c : Call K) → Corr K s l → counted K N (numbers (s .trials)) (c .history) ≡ firstResults K N (l .openTrials) (c .history)
+  pub same-row : (N : ℕ) (s : State K) (l : Ledger K) (c : Call K) → Corr s l → counted K N (numbers (s .trials)) (c .history) ≡ firstResults K N (l .openTrials) (c .history)
   same-row N s l c r = ap (λ (ns : List ℕ). counted K N ns (c .history)) (trial-numbers s l r) ∙ counted-row K N (l .openTrials) (c .history)
 
   -- 9 and 10 are the same on the state and on the ledger
-  pub refusals-agree : (s : State K) (l : Ledger K) (c : Call K) → Corr K s l → stateRefusal K (s .size) s c ≡ ledgerRefusal K (l .size) l c
+  pub refusals-agree : (s : State K) (l : Ledger K) (c : Call K) → Corr s l → stateRefusal K (s .size) s c ≡ ledgerRefusal K (l .size) l c
   unfolding stateRefusal ledgerRefusal
   refusals-agree s l c r = ap (λ (z : Option ℕ). stateRefusal K z s c) (r .size) ∙ go (l .size)
     where

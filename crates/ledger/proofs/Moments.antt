@@ -10,10 +10,10 @@ use Rattle.ledger.specs.Ledger.{Ledger, empty, refusalOf, accepted, unle
 use Rattle.ledger.specs.Run.{Sampler, Point, Moment, moment, ran, definedResult, tableRefusal, after, start, viewed, Meets}
 use Rattle.ledger.specs.Claim.{refusalIn, settingIn, LedgerCloses, SamplerCloses, HandedBack}
 use Rattle.ledger.proofs.Lists.{none≢some, neither, not-refused}
+use Rattle.ledger.proofs.Agree.{refusals-agree}
 use Rattle.ledger.proofs.Sound.{accept-sound, fresh-sound}
 use Rattle.ledger.proofs.SoundTest.{sample-step, sample-sound}
 use Rattle.ledger.proofs.Invariant.{Right, Inv, Seen, add-moment, seen-now}
-use Rattle.ledger.proofs.Agree.{refusals-agree}
 use Rattle.ledger.proofs.Accept.{accept-ok}
 use mathlib.Core.Path.{_≡_, refl, sym, ap, subst, _∙_}
 use mathlib.Core.Logic.{_↔_}
