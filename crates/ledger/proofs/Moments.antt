@@ -1,5 +1,5 @@
 -- Each call keeps what holds where a list stands: first of the definition's call, whatever comes of it, then of a sampler that meets the definition.
-use Rattle.ledger.specs.Words.{orElse, _>>=_, refuseIf, isNone}
+use Rattle.ledger.specs.Words.{orElse, refuseIf, isNone}
 use Rattle.ledger.specs.Kernel.{Kernel}
 use Rattle.ledger.specs.Call.{Call, anyBad, callRefusal}
 use Rattle.ledger.specs.State.{State, fresh, given, Result, refuse}
@@ -25,7 +25,7 @@ use lib.ListN.{length, getElem?}
 
 -- what can come of a call of the definition: a refusal, or an accepted call that no refusal is for
 module _ (K : Kernel) where
-  open Kernel K using (Setup, Distribution, Candidate, judged, decode, Fits, sized)
+  open Kernel K using (Setup, Candidate, judged, decode, Fits)
 
   outcomes : (P : Result K (State K) → Option ℕ → Type 0) (s : State K) (a b : Option ℕ) (o : Option (Accepted K)) → ((r : ℕ) → P (refuse K r s) (some r))
       → ((x : Accepted K) → a ≡ none → b ≡ none → o ≡ some x → P (record { answer = given (x .setting); draws = x .draws; state = x .state }) none)
