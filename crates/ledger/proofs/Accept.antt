@@ -1,4 +1,5 @@
--- An accepted call keeps the invariant: closing (or not), then assignment; and in discovery a dimension more, or its end.
+-- An accepted call keeps the invariant: closing (or not), then assignment; in discovery a dimension more, or its end. The state between closing and
+-- assignment meets the invariant too, so the two are shown apart (Close, Serve).
 use Rattle.ledger.specs.Kernel.{Gen, Made, Kernel}
 use Rattle.ledger.specs.Call.{Call, anyBad}
 use Rattle.ledger.specs.State.{Trial, numbers, State, startGen}

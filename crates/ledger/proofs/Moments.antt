@@ -23,10 +23,10 @@ use Prim.Native.Nat.{ℕ, suc, _<_}
 use native.Mathlib.Omega.{arith}
 use lib.ListN.{length, getElem?}
 
--- what can come of a call of the definition: a refusal, or an accepted call that no refusal is for
 module _ (K : Kernel) where
   open Kernel K using (Setup, Candidate, judged, decode, Fits)
 
+  -- what can come of a call of the definition: a refusal, or an accepted call that no refusal is for
   outcomes : (P : Result K (State K) → Option ℕ → Type 0) (s : State K) (a b : Option ℕ) (o : Option (Accepted K)) → ((r : ℕ) → P (refuse K r s) (some r))
       → ((x : Accepted K) → a ≡ none → b ≡ none → o ≡ some x → P (record { answer = given (x .setting); draws = x .draws; state = x .state }) none)
       → P (outcome K s (orElse a b) o) (orElse a (orElse b (refuseIf (isNone o) 11)))
