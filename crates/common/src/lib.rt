@@ -1,8 +1,14 @@
 // Between settings and internal doubles (sampler/common.rs).
+mod float;
+mod int;
+mod places;
+
 ghost use mathlib.Core.Path.{_≡_};
 ghost use Rattle.common.specs.Bounds.{bounds, intBounds};
+ghost use Rattle.common.specs.FromInternal.{fromInternal};
 use distribution::Distribution;
 use distribution::IntDistribution;
+use distribution::ParamValue;
 
 pub struct Bounds {
     pub low: f64,
@@ -31,5 +37,16 @@ pub fn internal_bounds(d: Distribution) -> Bounds
             low: 0.0,
             high: 0.0,
         },
+    }
+}
+
+// The setting that an internal double stands for. The Rust does not reach a categorical distribution: choice 0 stands there.
+pub fn from_internal(value: f64, d: Distribution) -> ParamValue
+    ensures { λ r. ⌜ r ≡ fromInternal value d ⌝ }
+{
+    match d {
+        Distribution::Float(f) => ParamValue::Float(float::from_float(value, f)),
+        Distribution::Int(i) => ParamValue::Int(int::from_int(value, i)),
+        Distribution::Categorical(_) => ParamValue::Categorical(0),
     }
 }
