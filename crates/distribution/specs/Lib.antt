@@ -1,2 +1,3 @@
 pub mod Dims
 pub mod Refusals
+pub mod Validate

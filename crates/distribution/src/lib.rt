@@ -2,6 +2,8 @@
 ghost use mathlib.Core.Path.{_≡_};
 ghost use Rattle.distribution.specs.Dims.{continuous, choices};
 
+pub mod validate;
+
 // `Option<f64>` of the Rust.
 pub enum FloatStep {
     Unset,
@@ -70,6 +72,12 @@ pub enum Refusal {
     Dimensions,
     ExtraTrials,
     EntryNan,
+}
+
+// What `validate` says of a distribution.
+pub enum Verdict {
+    Valid,
+    Refused(Refusal),
 }
 
 // Float and Int are continuous.
