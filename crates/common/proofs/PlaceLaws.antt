@@ -1,16 +1,15 @@
 -- Integers by their places: order, clamp and sum of integers are order, clamp and sum of places, so the code's arithmetic is the exact one.
 use mathlib.Core.Path.{_≡_, refl, sym, ap, _∙_, subst}
 use mathlib.Core.Bool.{Bool, true, false, cond}
-use Prim.Native.Nat.{ℕ, zero, suc, _+_, _-_, _*_, _≤_, _<_, _^_, min, max}
-use native.Mathlib.Nat.{zero-mul, mul-zero, mul-le-mul-left, min-eq-left}
+use Prim.Native.Nat.{ℕ, zero, suc, _+_, _-_, _≤_, _<_, _^_, min, max}
 use native.Mathlib.Omega.{arith}
-use lib.IntN.{ℤ, pos, negsuc, negℤ, _+ℤ_, _-ℤ_, _*ℤ_}
-use lib.Dec.{T, leb, ltb}
+use lib.IntN.{ℤ, pos, negsuc, _-ℤ_}
+use lib.Dec.{T, ltb}
 use lib.Signed.{mag, ltZ, leZ}
 use mir.Syntax.{w64}
 use mir.Val.{SFits, toZ, ofZ}
 use mir.ValLaws.{toZ-ofZ}
-use borrow.Author.Tests.{ltb-true, ltb-false, leb-true, leb-false, le-leb, lt-leb, lt-ltb, le-ltb}
+use borrow.Author.Tests.{ltb-true, ltb-false, leb-false, le-leb, lt-leb, le-ltb}
 use Rattle.common.specs.Places.{placeOf, atPlace, lastPlace, clampPlace}
 use Rattle.common.specs.FromInternal.{clampZ}
 

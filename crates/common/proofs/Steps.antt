@@ -2,7 +2,7 @@
 use mathlib.Core.Path.{_≡_, refl, sym, ap, _∙_}
 use mathlib.Core.Bool.{Bool, true, false, not, cond}
 use Prim.Native.Nat.{ℕ, zero, suc, _+_, _-_, _*_, _≤_, _<_, _^_, min}
-use native.Mathlib.Nat.{zero-mul, mul-zero, mul-comm, mul-one, mul-le-mul-left, min-eq-left}
+use native.Mathlib.Nat.{zero-mul, mul-zero, mul-one, min-eq-left}
 use native.Mathlib.Omega.{arith}
 use lib.IntN.{ℤ, pos, negsuc, negℤ, _+ℤ_, _*ℤ_}
 use lib.Dec.{leb, ltb}

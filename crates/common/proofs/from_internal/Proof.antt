@@ -1,13 +1,11 @@
 -- `from_internal` meets its contract: each arm is the definition's case of its variant.
-use mathlib.Core.Path.{_≡_, sym, ap, _∙_}
+use mathlib.Core.Path.{sym, ap, _∙_}
 use borrow.Author.Needs.{needs}
 use Rattle.distribution.specs.declared.ParamValue.the-variants as P
 use Rattle.common.specs.FromInternal.{fromInternal}
 use Rattle.common.proofs.PlaceLaws.{own-z}
 use Rattle.common.proofs.from_internal.Statement.{statement}
 use Rattle.common.proofs.from_internal.Tie as tie
-use Rattle.common.proofs.float.from_float.Reads as from-float-reads
-use Rattle.common.proofs.int.from_int.Reads as from-int-reads
 
 enum-known-d : tie.Need-enum-known-d
 enum-known-d c = search needs

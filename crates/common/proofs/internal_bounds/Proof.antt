@@ -1,11 +1,9 @@
 -- `internal_bounds` meets its contract: each arm is the definition's case of its variant.
 use Rattle.common.specs.Bounds.{bounds}
 use mathlib.Core.Path.{sym, ap, _∙_}
-use native.Mathlib.Omega.{arith}
 use borrow.Author.Needs.{needs}
 use Rattle.common.proofs.internal_bounds.Statement.{statement}
 use Rattle.common.proofs.internal_bounds.Tie as tie
-use Rattle.common.proofs.int_bounds.Reads as int-bounds-reads
 
 enum-known-d : tie.Need-enum-known-d
 enum-known-d c = search needs

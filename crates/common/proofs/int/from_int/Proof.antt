@@ -1,9 +1,7 @@
 -- `from_int` meets its contract: without a step it is steps of 1 from 0, with one it is steps from low.
-use mathlib.Core.Path.{_≡_, sym, ap, _∙_}
-use lib.IntN.{ℤ, pos, _+ℤ_, _*ℤ_}
-use lib.Ieee.{Float, binary64, sub, div, ofInt}
-use mir.Syntax.{w64}
-use mir.Val.{SFits, toZ, ofZ}
+use mathlib.Core.Path.{sym, ap, _∙_}
+use lib.IntN.{ℤ, _+ℤ_, _*ℤ_}
+use lib.Ieee.{binary64, sub, div, ofInt}
 use borrow.Author.Needs.{needs}
 use Rattle.distribution.specs.declared.IntStep.{IntStep}
 use Rattle.rounding.specs.Round.{wholeZ}

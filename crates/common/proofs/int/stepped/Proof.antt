@@ -1,6 +1,6 @@
 -- `stepped` meets its contract: the sum and the clamp of the places are those of the integers.
 use mathlib.Core.Path.{_≡_, ap, _∙_}
-use Prim.Native.Nat.{ℕ, min}
+use Prim.Native.Nat.{min}
 use lib.IntN.{ℤ, _+ℤ_, _*ℤ_}
 use borrow.Author.Needs.{needs}
 use Rattle.rounding.specs.Round.{wholeZ}

@@ -1,12 +1,11 @@
 -- `steps_from` meets its contract: k has the sign of q, so k * step goes up where the signs of q and of the step agree.
 use mathlib.Core.Path.{_≡_, sym, ap, _∙_}
 use mathlib.Core.Bool.{Bool, not, cond}
-use Prim.Native.Nat.{ℕ, _+_, _-_, _*_, _^_, _≤_, _<_, min}
+use Prim.Native.Nat.{ℕ, _+_, _-_, _*_, _^_, _≤_, min}
 use native.Mathlib.Omega.{arith}
-use lib.IntN.{ℤ, _+ℤ_, _*ℤ_}
-use lib.Ieee.{Float, binary64, lt, ofBits}
+use lib.IntN.{ℤ, _+ℤ_}
+use lib.Ieee.{binary64, lt, ofBits}
 use borrow.Author.Needs.{needs}
-use Rattle.rounding.specs.Round.{wholeSize, wholeZ}
 use Rattle.common.specs.Places.{placeOf, atPlace, lastPlace}
 use Rattle.common.proofs.Steps.{signed, moved-is, times-upper, times-lower}
 use Rattle.common.proofs.int.steps_from.Statement.{statement}

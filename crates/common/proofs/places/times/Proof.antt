@@ -1,22 +1,15 @@
 -- `times` meets its contract: k is past most / s exactly where k * s is past most.
-use mathlib.Core.Path.{_≡_, sym, ap, _∙_}
-use Prim.Native.Nat.{ℕ, _*_, _/_, _≤_, _<_, min}
-use native.Mathlib.Nat.{mul-zero, mul-le-mul-right, div-add-mod', div-lt-iff-lt-mul}
+use mathlib.Core.Path.{_≡_, ap, _∙_}
+use Prim.Native.Nat.{ℕ, _*_, min}
+use native.Mathlib.Nat.{mul-zero}
 use native.Mathlib.Omega.{arith}
 use borrow.Author.Needs.{needs}
+use Rattle.common.proofs.Strides.{product, past}
 use Rattle.common.proofs.places.times.Statement.{statement}
 use Rattle.common.proofs.places.times.Tie as tie
 
 none : (k s most : ℕ) → s ≡ 0 → 0 ≡ min (k * s) most
 none k s most e = let z : k * s ≡ 0 = ap (λ (n : ℕ). k * n) e ∙ mul-zero k in omega arith
-
-product : (n k s : ℕ) → k ≤ n / s → k * s ≤ n
-product n k s h =
-    let a : k * s ≤ n / s * s = mul-le-mul-right s h in
-    omega (arith, div-add-mod' n s)
-
-past : (n k s : ℕ) → 1 ≤ s → n / s < k → n < k * s
-past n k s p h = div-lt-iff-lt-mul p .0 h
 
 returns : tie.Need-returns
 returns c = none _ _ _ (c .if1 .taken)
