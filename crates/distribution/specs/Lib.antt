@@ -1,3 +1,4 @@
 pub mod Dims
+pub mod Good
 pub mod Refusals
 pub mod Validate

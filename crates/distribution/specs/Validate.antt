@@ -18,6 +18,7 @@ use Rattle.distribution.specs.declared.Verdict.{Verdict}
 use Rattle.distribution.specs.declared.Verdict.the-variants.{Valid, Refused}
 use Rattle.distribution.specs.Refusals.{refusalNumber}
 
+-- neither NaN nor an infinity
 abbrev pub isFinite : Float → Bool
 isFinite nan = false
 isFinite (inf s) = false
@@ -79,6 +80,8 @@ unfoldable pub quotient : Float → Float → Float → Float
 unfolding sub div
 quotient low high s = div binary64 (sub binary64 high low) s
 
+-- The tests are in the order of the row. Every comparison with NaN is false: a NaN step is not above 0, and no quotient is NaN where
+-- the bounds pass row 4 and the step is finite and above 0.
 unfoldable pub floatStepFails : Float → Float → FloatStep → Bool
 unfolding quotientLimit quotient lt ofBits
 floatStepFails low high F.Unset = false

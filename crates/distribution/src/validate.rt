@@ -1,6 +1,6 @@
 // Refusals 4 to 7: which distributions the sampler takes (`validate` of parameter.rs).
 ghost use mathlib.Core.Path.{_≡_};
-ghost use Rattle.distribution.specs.Validate.{isFinite, floatBoundFails, floatBoundsFail, intBoundFails, intBoundsFail, floatStepFails, intStepFails, choicesFail, verdictOf};
+ghost use Rattle.distribution.specs.Validate.{isFinite, floatBoundFails, floatBoundsFail, intBoundFails, intBoundsFail, floatStepFails, intStepFails, verdictOf};
 use super::CategoricalDistribution;
 use super::Distribution;
 use super::FloatDistribution;
@@ -29,18 +29,21 @@ pub fn is_finite(x: f64) -> bool
     -infinity < x && x < infinity
 }
 
+// Refusal 4 of one Float bound: not finite, or over 1e300 in size.
 fn float_bound_fails(x: f64) -> bool
     ensures { λ r. ⌜ r ≡ floatBoundFails x ⌝ }
 {
     !is_finite(x) || x > FLOAT_LIMIT || x < -FLOAT_LIMIT
 }
 
+// Refusal 4 of a Float distribution.
 fn float_bounds_fail(low: f64, high: f64) -> bool
     ensures { λ r. ⌜ r ≡ floatBoundsFail low high ⌝ }
 {
     float_bound_fails(low) || float_bound_fails(high) || low > high
 }
 
+// Refusal 6 of a Float distribution: no finite step above 0, or too many of them.
 fn float_step_fails(low: f64, high: f64, step: FloatStep) -> bool
     ensures { λ r. ⌜ r ≡ floatStepFails low high step ⌝ }
 {
@@ -50,18 +53,21 @@ fn float_step_fails(low: f64, high: f64, step: FloatStep) -> bool
     }
 }
 
+// Refusal 4 of one Int bound: over 2^53 in size.
 fn int_bound_fails(x: i64) -> bool
     ensures { λ r. ⌜ r ≡ intBoundFails x ⌝ }
 {
     x > INT_LIMIT || x < -INT_LIMIT
 }
 
+// Refusal 4 of an Int distribution.
 fn int_bounds_fail(low: i64, high: i64) -> bool
     ensures { λ r. ⌜ r ≡ intBoundsFail low high ⌝ }
 {
     int_bound_fails(low) || int_bound_fails(high) || low > high
 }
 
+// Refusal 6 of an Int distribution: a step outside 1 to 2^53.
 fn int_step_fails(step: IntStep) -> bool
     ensures { λ r. ⌜ r ≡ intStepFails step ⌝ }
 {

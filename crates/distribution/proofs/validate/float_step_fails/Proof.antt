@@ -4,7 +4,6 @@ use mathlib.Core.Bool.{not, _||_}
 use mathlib.Core.Logic.{⊎-elim}
 use lib.Ieee.{Float, binary64, lt, ofBits}
 use borrow.Author.Needs.{needs}
-use Rattle.distribution.specs.declared.FloatStep.{FloatStep}
 use Rattle.distribution.specs.Validate.{isFinite, quotient, floatStepFails}
 use Rattle.distribution.proofs.Flags.{or-first, or-rest, quotient-limit}
 use Rattle.distribution.proofs.validate.float_step_fails.Statement.{statement}

@@ -1,9 +1,8 @@
 -- `int_bound_fails` meets its contract: above 2^53, or below -2^53, is over 2^53 in size.
 use mathlib.Core.Path.{_≡_, refl, sym, ap, _∙_, subst}
 use mathlib.Core.Bool.{Bool, true, false}
-use Prim.Native.Nat.{_^_}
 use lib.Dec.{T, leb·suc-suc}
-use lib.IntN.{ℤ, pos, negsuc, natAbs}
+use lib.IntN.{ℤ, pos, negsuc}
 use lib.Signed.{ltZ}
 use mir.Facts.{toZ-ofZ}
 use borrow.Author.Needs.{needs}
