@@ -1,0 +1,4 @@
+pub mod Select
+pub mod Best
+pub mod Size
+pub mod Records
