@@ -1,6 +1,6 @@
 -- Where the state agrees with the ledger, both read a call alike: the same counted results, the same refusal 9 or 10, whether it is of discovery.
 use Rattle.ledger.specs.Words.{refuseIf, has}
-use Rattle.ledger.specs.Kernel.{Kernel}
+use Rattle.ledger.specs.Kernel.{Kernel, Laws}
 use Rattle.ledger.specs.Call.{Call}
 use Rattle.ledger.specs.State.{numbers, cap, State}
 use Rattle.ledger.specs.Closing.{counted}
@@ -18,7 +18,7 @@ use Prim.Native.Nat.{ℕ, min}
 use lib.Dec.{leb}
 use lib.ListN.{length}
 
-module _ (K : Kernel) where
+module _ (K : Kernel) (L : Laws K) where
   open Kernel K using (Distribution)
 
   -- the state and the ledger agree
@@ -41,7 +41,7 @@ module _ (K : Kernel) where
 
   -- the sampler counts what the ledger counts
   pub same-row : (N : ℕ) (s : State K) (l : Ledger K) (c : Call K) → Corr s l → counted K N (numbers (s .trials)) (c .history) ≡ firstResults K N (l .openTrials) (c .history)
-  same-row N s l c r = ap (λ (ns : List ℕ). counted K N ns (c .history)) (trial-numbers s l r) ∙ counted-row K N (l .openTrials) (c .history)
+  same-row N s l c r = ap (λ (ns : List ℕ). counted K N ns (c .history)) (trial-numbers s l r) ∙ counted-row K L N (l .openTrials) (c .history)
 
   -- 9 and 10 are the same on the state and on the ledger
   pub refusals-agree : (s : State K) (l : Ledger K) (c : Call K) → Corr s l → stateRefusal K (s .size) s c ≡ ledgerRefusal K (l .size) l c

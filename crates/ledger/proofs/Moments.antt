@@ -1,6 +1,6 @@
 -- Each call keeps what holds where a list stands: first of the definition's call, whatever comes of it, then of a sampler that meets the definition.
 use Rattle.ledger.specs.Words.{orElse, _>>=_, refuseIf, isNone}
-use Rattle.ledger.specs.Kernel.{Kernel}
+use Rattle.ledger.specs.Kernel.{Kernel, Laws}
 use Rattle.ledger.specs.Call.{Call, anyBad, callRefusal}
 use Rattle.ledger.specs.State.{State, fresh, given, Result, refuse}
 use Rattle.ledger.specs.Assignment.{Accepted}
@@ -24,8 +24,9 @@ use native.Mathlib.Omega.{arith}
 use lib.ListN.{length, getElem?}
 
 -- what can come of a call of the definition: a refusal, or an accepted call that no refusal is for
-module _ (K : Kernel) where
-  open Kernel K using (Setup, Distribution, Candidate, judged, decode, Fits, sized)
+module _ (K : Kernel) (L : Laws K) where
+  open Kernel K using (Setup, Distribution, Candidate, judged, decode, Fits)
+  open Laws L using (sized)
 
   outcomes : (P : Result K (State K) → Option ℕ → Type 0) (s : State K) (a b : Option ℕ) (o : Option (Accepted K)) → ((r : ℕ) → P (refuse K r s) (some r))
       → ((x : Accepted K) → a ≡ none → b ≡ none → o ≡ some x → P (record { answer = given (x .setting); draws = x .draws; state = x .state }) none)
@@ -38,13 +39,13 @@ module _ (K : Kernel) where
   module _ (X : Sampler K) (S : Setup) where
     -- ---- the definition's call
 
-    module _ (ms : List (Moment K X)) (s : State K) (l : Ledger K) (c : Call K) (v : Inv K X S ms s l) (u : Sound K S s) (seen : Seen K X S ms l) where
+    module _ (ms : List (Moment K X)) (s : State K) (l : Ledger K) (c : Call K) (v : Inv K L X S ms s l) (u : Sound K S s) (seen : Seen K L X S ms l) where
       -- what is shown of a call with this result, by this refusal
       abbrev next : Option ℕ → Ledger K
       next f = unlessRefused K f l (accepted K S (l .size) l c)
 
       record Shown (r : Result K (State K)) (f : Option ℕ) : Type 0 where
-        inv : Inv K X S ms (r .state) (next f)
+        inv : Inv K L X S ms (r .state) (next f)
         refusal : refusalIn K (r .answer) ≡ f
         back : IsSome f → (settingIn K (r .answer) ≡ none) × (r .draws ≡ 0) × (r .state ≡ s)
         closes : (length (r .state .trials) < length (s .trials)) ↔ (length (l .generations) < length ((next f) .generations))
@@ -54,13 +55,13 @@ module _ (K : Kernel) where
       shown-step : Shown (step K S s c) (refusalOf K l c (elevenAt K S s c))
       unfolding step refusalOf elevenAt
       shown-step =
-          rw (← (refusals-agree K s l c (v .corr)))
+          rw (← (refusals-agree K L s l c (v .corr)))
           (outcomes Shown s (callRefusal K c) (stateRefusal K (s .size) s c) (accept K S (s .size) s c)
           (λ r. record { inv = v; refusal = refl; back = λ t. (refl, refl, refl); closes = (λ h. absurd (omega arith), λ h. absurd (omega arith)); setting = λ i k b x. absurd (none≢some (sym (x .0))) })
           (λ x p q e.
           let good = not-refused (anyBad K (c .history)) 8 (neither (judged (c .distribution)) _ p .1) in
-          let f = accept-sound K S s u c p (s .size) refl q x e in
-          let d = accept-ok K X S ms s l v u seen c good x f (l .size) refl (subst (λ (z : Option ℕ). accept K S z s c ≡ some x) (v .corr .size) e) in
+          let f = accept-sound K L S s u c p (s .size) refl q x e in
+          let d = accept-ok K L X S ms s l v u seen c good x f (l .size) refl (subst (λ (z : Option ℕ). accept K S z s c ≡ some x) (v .corr .size) e) in
           record {
             inv = d .done .inv;
             refusal = refl;
@@ -70,16 +71,16 @@ module _ (K : Kernel) where
           }))
 
       shown : Shown (sample K S s c) (refusalOf K l c (elevenAt K S s c))
-      shown = subst (λ (r : Result K (State K)). Shown r (refusalOf K l c (elevenAt K S s c))) (sym (sample-step K S s c u)) shown-step
+      shown = subst (λ (r : Result K (State K)). Shown r (refusalOf K l c (elevenAt K S s c))) (sym (sample-step K L S s c u)) shown-step
 
     -- ---- the sampler's call, and a list of them
 
     module _ (meets : Meets K X S) where
       -- what holds where a list stands
       pub record Stands (ms : List (Moment K X)) (p : Point K X) : Type 0 where
-        pub inv : Inv K X S ms (p .defined) (p .ledger)
+        pub inv : Inv K L X S ms (p .defined) (p .ledger)
         pub sound : Sound K S (p .defined)
-        pub seen : Seen K X S ms (p .ledger)
+        pub seen : Seen K L X S ms (p .ledger)
         pub clean : meets .Clean (p .state)
         pub agrees : X .view (p .state) ≡ p .defined
 
@@ -115,7 +116,7 @@ module _ (K : Kernel) where
         unfolding enterCall
         closes-too = rw (state, h .agrees) (r .closes)
 
-        right : Right K X S m
+        right : Right K L X S m
         unfolding enterCall
         right =
             record {
@@ -130,9 +131,9 @@ module _ (K : Kernel) where
         unfolding enterCall
         goes-on =
             record {
-              inv = add-moment K X S ms m (r .inv) right;
-              sound = sample-sound K S (p .defined) c (h .sound);
-              seen = seen-now K X S ms m;
+              inv = add-moment K L X S ms m (r .inv) right;
+              sound = sample-sound K L S (p .defined) c (h .sound);
+              seen = seen-now K L X S ms m;
               clean = clean;
               agrees = state;
             }
@@ -156,7 +157,7 @@ module _ (K : Kernel) where
                         held = λ i p e. absurd (none≢some e);
                       };
                 };
-            sound = fresh-sound K S;
+            sound = fresh-sound K L S;
             seen = λ N e. absurd (none≢some e);
             clean = meets .new-clean;
             agrees = meets .new-view;

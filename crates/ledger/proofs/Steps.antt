@@ -1,6 +1,6 @@
 -- Steps 6 and 5 on a sound state: what a closing leaves, and what an assignment leaves, as records of facts that the later files go by.
 use Rattle.ledger.specs.Words.{All}
-use Rattle.ledger.specs.Kernel.{Gen, Made, Kernel}
+use Rattle.ledger.specs.Kernel.{Gen, Made, Kernel, Laws}
 use Rattle.ledger.specs.Call.{Call}
 use Rattle.ledger.specs.State.{Trial, numbers, State}
 use Rattle.ledger.specs.Closing.{up, newParents, anyReplaced, newIdle, settle, reopen, close}
@@ -20,12 +20,13 @@ use native.Mathlib.Omega.{arith}
 use lib.ListN.{length, getElem?}
 use lib.Ieee.{Float, nan}
 
-module _ (K : Kernel) where
-  open Kernel K using (Setup, Candidate, Word, extra, nexts, Fits, nexts-length, nexts-fit, extra-fits)
+module _ (K : Kernel) (L : Laws K) where
+  open Kernel K using (Setup, Candidate, Word, extra, nexts, Fits)
+  open Laws L using (nexts-length, nexts-fit, extra-fits)
 
   -- ---- step 6
 
-  module _ (S : Setup) (N : ℕ) (s : State K) (w : Running K S N s) (many : ℕ) (row : List Float) (q : Counted K N many row) where
+  module _ (S : Setup) (N : ℕ) (s : State K) (w : Running K S N s) (many : ℕ) (row : List Float) (q : Counted K L N many row) where
     pub slots-length : length ((settle K (s .slots) (s .candidates) row) .parents) ≡ N
     slots-length = go (s .slots .closed) refl
       where
@@ -73,7 +74,7 @@ module _ (K : Kernel) where
           capped = omega arith;
         }
 
-  pub close-sound : (S : Setup) (N : ℕ) (s : State K) → Sound K S s → s .size ≡ some N → (many : ℕ) (row : List Float) → Counted K N many row → (cs : List Candidate) → length cs ≡ N → All (Fits (s .dims)) cs
+  pub close-sound : (S : Setup) (N : ℕ) (s : State K) → Sound K S s → s .size ≡ some N → (many : ℕ) (row : List Float) → Counted K L N many row → (cs : List Candidate) → length cs ≡ N → All (Fits (s .dims)) cs
       → Sound K S (reopen K s (settle K (s .slots) (s .candidates) row) cs)
   close-sound S N s v sz many row q cs e f =
       record {
@@ -90,7 +91,7 @@ module _ (K : Kernel) where
     pub many : length cs ≡ N
     pub fit : All (Fits (s .dims)) cs
 
-  pub closing : (S : Setup) (N : ℕ) (s : State K) → Sound K S s → s .size ≡ some N → (many : ℕ) (row : List Float) → Counted K N many row → (g : Gen Word) (m : Made Word (State K)) → close K S s g (some row) ≡ some m
+  pub closing : (S : Setup) (N : ℕ) (s : State K) → Sound K S s → s .size ≡ some N → (many : ℕ) (row : List Float) → Counted K L N many row → (g : Gen Word) (m : Made Word (State K)) → close K S s g (some row) ≡ some m
       → Reopened N s row m
   unfolding close
   closing S N s v sz many row q g m e =

@@ -1,5 +1,5 @@
 -- A small kernel that meets the laws, so that demand 3 is not said of nothing: candidates, settings and the generator's word are numbers.
-use Rattle.ledger.specs.Kernel.{Gen, Made, Parent, Kernel}
+use Rattle.ledger.specs.Kernel.{Gen, Made, Parent, Kernel, Laws}
 use Rattle.ledger.proofs.Lists.{none≢some, some-inj, length-map}
 use mathlib.Core.Path.{_≡_, refl, sym, ap, _∙_}
 use mathlib.Core.Logic.{_≢_}
@@ -68,6 +68,11 @@ toy =
       isBad = λ e. isNaN (e .value);
       fits = λ ds y. true;
       Fits = λ ds y. Unit {0};
+    }
+
+abbrev pub toy-laws : Laws toy
+toy-laws =
+    record {
       sized = λ S ds. omega arith;
       firsts-length = λ S ds n g m e. ap (λ (x : Made ℕ (List ℕ)). length (x .out)) (sym (some-inj e)) ∙ from-length (g .word) n;
       nexts-length = λ S ds ps b g m e. ap length (came (eqb b 3) (later ps) g m e) ∙ length-map (λ (p : Parent ℕ). p .candidate + 100) ps;
