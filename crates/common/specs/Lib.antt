@@ -1,1 +1,5 @@
 pub mod Bounds
+pub mod FromInternal
+pub mod Places
+pub mod Random
+pub mod ToInternal

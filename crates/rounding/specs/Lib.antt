@@ -1,1 +1,3 @@
 pub mod Clamp
+pub mod Floor
+pub mod Round

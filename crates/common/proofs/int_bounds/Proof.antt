@@ -1,3 +1,4 @@
+-- `int_bounds` meets its contract: the library's cast gives the nearest double of each bound.
 use mathlib.Core.Path.{ap, _∙_}
 use lib.Ieee.{binary64, ofInt}
 use borrow.Author.Needs.{needs}

@@ -1,38 +1,28 @@
+-- `internal_bounds` meets its contract: each arm is the definition's case of its variant.
 use Rattle.common.specs.Bounds.{bounds}
 use mathlib.Core.Path.{sym, ap, _∙_}
-use native.Mathlib.Omega.{arith}
 use borrow.Author.Needs.{needs}
 use Rattle.common.proofs.internal_bounds.Statement.{statement}
 use Rattle.common.proofs.internal_bounds.Tie as tie
-use Rattle.common.proofs.internal_bounds.Reads as reads
-use Rattle.common.proofs.internal_bounds.Lts as lts
-use Rattle.common.proofs.int_bounds.Reads as int-bounds-reads
 
--- src/lib.rt:24:29
 enum-known-d : tie.Need-enum-known-d
 enum-known-d c = search needs
 
--- src/lib.rt:28:27
 enum-known-d-2 : tie.Need-enum-known-d-2
 enum-known-d-2 c = search needs
 
--- src/lib.rt:28:33
 int-bounds-requires : tie.Need-int-bounds-requires
 int-bounds-requires c κs = search needs
 
--- src/lib.rt:29:41
 enum-told : tie.Need-enum-told
 enum-told c = search needs
 
--- src/lib.rt:20:1
 returns : tie.Need-returns
 returns c = ap bounds (sym (c .before .d .given .1))
 
--- src/lib.rt:20:1
 returns-2 : tie.Need-returns-2
 returns-2 c = c .int-bounds .ensures ∙ ap bounds (sym (c .before .before .d2 .given .1))
 
--- src/lib.rt:20:1
 returns-3 : tie.Need-returns-3
 returns-3 c = ap bounds (sym (c .enum-told .given .1))
 

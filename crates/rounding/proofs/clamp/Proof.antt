@@ -1,4 +1,4 @@
--- `clamp` meets its contract: each arm's tests choose its case. Assumes nothing.
+-- `clamp` meets its contract: each arm's tests choose its case.
 use Rattle.rounding.specs.Clamp.{clampOf}
 use Rattle.rounding.proofs.clamp.Statement.{statement}
 use Rattle.rounding.proofs.clamp.Tie as tie

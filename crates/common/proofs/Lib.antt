@@ -1,0 +1,4 @@
+pub mod PlaceLaws
+pub mod Steps
+pub mod Strides
+pub mod Valid
