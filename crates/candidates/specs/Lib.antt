@@ -1,0 +1,5 @@
+pub mod Space
+pub mod Candidate
+pub mod Random
+pub mod Nan
+pub mod Records
