@@ -1,0 +1,7 @@
+use Prim.Native.Nat.{ℕ, _*_, max}
+use Rattle.evolution.specs.declared.PopulationSize.{PopulationSize}
+use Rattle.evolution.specs.declared.PopulationSize.the-variants.{Unset, Of}
+
+abbrev pub sizeOf : PopulationSize → ℕ → ℕ
+sizeOf Unset n = max 15 (10 * n)
+sizeOf (Of k) n = max k 4

@@ -1,0 +1,4 @@
+pub mod Blank
+pub mod View
+pub mod Setup
+pub mod Sound
