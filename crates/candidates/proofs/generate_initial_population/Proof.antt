@@ -1,12 +1,11 @@
 -- `generate_initial_population` meets its contract: the house form of a loop that fills (`Part`), one candidate a turn. Assumes nothing.
 use Prim.Native.Nat.{_≤_, _+_, _-_, _*_}
 use native.Mathlib.Omega.{arith}
-use mathlib.Core.Path.{ap}
 use borrow.Author.Needs.{needs}
 use Rattle.rng_util.proofs.Parts.{Part, part-first, part-again, part-last}
-use Rattle.candidates.specs.declared.DrawnCandidate.{DrawnCandidate}
 use Rattle.candidates.specs.Random.{candidateAt, randomCandidates}
 use Rattle.candidates.specs.Candidate.{blankCandidate}
+use Rattle.candidates.proofs.Drawn.{candidate-parts}
 use Rattle.candidates.proofs.Draws.{drew-candidate}
 use Rattle.candidates.proofs.generate_initial_population.Statement.{statement}
 use Rattle.candidates.proofs.generate_initial_population.Tie as tie
@@ -39,11 +38,18 @@ loop-less : tie.Need-loop-less Inv-loop μ-loop
 loop-less c = omega arith
 
 loop-again : tie.Need-loop-again Inv-loop μ-loop
-loop-again c = let l = c .before .before .before .before .loop in let a = c .before .before .before .before .before .before .args in let e = c .before .before .random-candidate .ensures in (omega arith, omega (arith, drew-candidate (a .space) (l .g) _ e), part-again 224 blankCandidate (candidateAt (a .space)) (a .n) _ _ (l .g) (l .i) _ _ (omega arith) (omega arith) (ap (λ (r : DrawnCandidate). r .candidate) e) (ap (λ (r : DrawnCandidate). r .after) e) (l .inv .2))
+loop-again c =
+    let l = c .before .before .before .before .loop in
+    let a = c .before .before .before .before .before .before .args in
+    let e = c .before .before .random-candidate .ensures in
+    (omega arith, omega (arith, drew-candidate (a .space) (l .g) _ e), part-again 224 blankCandidate (candidateAt (a .space)) (a .n) _ _ (l .g) (l .i) _ _ (omega arith) (omega arith) (candidate-parts _ _ e .0) (candidate-parts _ _ e .1) (l .inv .2))
 
 returns : tie.Need-returns Inv-loop μ-loop
 unfolding randomCandidates
-returns c = let a = c .before .before .before .args in let e = part-last 224 blankCandidate (candidateAt (a .space)) (a .n) _ _ _ _ (omega arith) (c .before .loop .inv .2) in λ i. record { candidates = e .0 i; after = e .1 i }
+returns c =
+    let a = c .before .before .before .args in
+    let e = part-last 224 blankCandidate (candidateAt (a .space)) (a .n) _ _ _ _ (omega arith) (c .before .loop .inv .2) in
+    λ i. record { candidates = e .0 i; after = e .1 i }
 
 pub generate-initial-population-spec : {M : Type 1} → statement M
 generate-initial-population-spec =

@@ -1,11 +1,10 @@
 -- `random_choices` meets its contract: the house form of a loop that fills (`Part`), one choice a turn. Assumes nothing.
 use Prim.Native.Nat.{_≤_, _+_, _-_}
 use native.Mathlib.Omega.{arith}
-use mathlib.Core.Path.{ap}
 use borrow.Author.Needs.{needs}
 use Rattle.rng_util.proofs.Parts.{Part, part-first, part-again, part-last}
-use Rattle.candidates.specs.declared.DrawnChoice.{DrawnChoice}
 use Rattle.candidates.specs.Random.{choiceAt, randomChoices}
+use Rattle.candidates.proofs.Drawn.{choice-parts}
 use Rattle.candidates.proofs.Draws.{drew-choice}
 use Rattle.candidates.proofs.random_choices.Statement.{statement}
 use Rattle.candidates.proofs.random_choices.Tie as tie
@@ -41,11 +40,18 @@ loop-less : tie.Need-loop-less Inv-loop μ-loop
 loop-less c = omega arith
 
 loop-again : tie.Need-loop-again Inv-loop μ-loop
-loop-again c = let l = c .before .before .before .before .loop in let s = c .before .before .before .before .before .args .t1 in let e = c .before .random-choice .ensures in (omega arith, omega (arith, drew-choice _ (l .g) _ e), part-again 16 0 (choiceAt s) (s .«n_dims») _ _ (l .g) (l .i) _ _ (omega arith) (omega arith) (ap (λ (r : DrawnChoice). r .choice) e) (ap (λ (r : DrawnChoice). r .after) e) (l .inv .2))
+loop-again c =
+    let l = c .before .before .before .before .loop in
+    let s = c .before .before .before .before .before .args .t1 in
+    let e = c .before .random-choice .ensures in
+    (omega arith, omega (arith, drew-choice _ (l .g) _ e), part-again 16 0 (choiceAt s) (s .«n_dims») _ _ (l .g) (l .i) _ _ (omega arith) (omega arith) (choice-parts _ _ e .0) (choice-parts _ _ e .1) (l .inv .2))
 
 returns : tie.Need-returns Inv-loop μ-loop
 unfolding randomChoices
-returns c = let s = c .before .before .args .t1 in let e = part-last 16 0 (choiceAt s) (s .«n_dims») _ _ _ _ (omega arith) (c .before .loop .inv .2) in λ i. record { choices = e .0 i; after = e .1 i }
+returns c =
+    let s = c .before .before .args .t1 in
+    let e = part-last 16 0 (choiceAt s) (s .«n_dims») _ _ _ _ (omega arith) (c .before .loop .inv .2) in
+    λ i. record { choices = e .0 i; after = e .1 i }
 
 pub random-choices-spec : {M : Type 1} → statement M
 random-choices-spec =

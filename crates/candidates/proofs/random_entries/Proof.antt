@@ -1,12 +1,11 @@
 -- `random_entries` meets its contract: the house form of a loop that fills (`Part`), one entry a turn. Assumes nothing.
 use Prim.Native.Nat.{_≤_, _+_, _-_}
 use native.Mathlib.Omega.{arith}
-use mathlib.Core.Path.{ap}
 use borrow.Author.Needs.{needs}
 use Rattle.rng_util.proofs.Parts.{Part, part-first, part-again, part-last}
 use Rattle.common.specs.Bounds.{zeroF}
-use Rattle.candidates.specs.declared.DrawnEntry.{DrawnEntry}
 use Rattle.candidates.specs.Random.{entryAt, randomEntries}
+use Rattle.candidates.proofs.Drawn.{entry-parts}
 use Rattle.candidates.proofs.Draws.{drew-entry}
 use Rattle.candidates.proofs.random_entries.Statement.{statement}
 use Rattle.candidates.proofs.random_entries.Tie as tie
@@ -42,11 +41,18 @@ loop-less : tie.Need-loop-less Inv-loop μ-loop
 loop-less c = omega arith
 
 loop-again : tie.Need-loop-again Inv-loop μ-loop
-loop-again c = let l = c .before .before .before .before .loop in let s = c .before .before .before .before .before .args .t1 in let e = c .before .sample-random-internal .ensures in (omega arith, omega (arith, drew-entry _ (l .g) _ e), part-again 16 zeroF (entryAt s) (s .n) _ _ (l .g) (l .j) _ _ (omega arith) (omega arith) (ap (λ (r : DrawnEntry). r .entry) e) (ap (λ (r : DrawnEntry). r .after) e) (l .inv .2))
+loop-again c =
+    let l = c .before .before .before .before .loop in
+    let s = c .before .before .before .before .before .args .t1 in
+    let e = c .before .sample-random-internal .ensures in
+    (omega arith, omega (arith, drew-entry _ (l .g) _ e), part-again 16 zeroF (entryAt s) (s .n) _ _ (l .g) (l .j) _ _ (omega arith) (omega arith) (entry-parts _ _ e .0) (entry-parts _ _ e .1) (l .inv .2))
 
 returns : tie.Need-returns Inv-loop μ-loop
 unfolding randomEntries
-returns c = let s = c .before .before .args .t1 in let e = part-last 16 zeroF (entryAt s) (s .n) _ _ _ _ (omega arith) (c .before .loop .inv .2) in λ i. record { x = e .0 i; after = e .1 i }
+returns c =
+    let s = c .before .before .args .t1 in
+    let e = part-last 16 zeroF (entryAt s) (s .n) _ _ _ _ (omega arith) (c .before .loop .inv .2) in
+    λ i. record { x = e .0 i; after = e .1 i }
 
 pub random-entries-spec : {M : Type 1} → statement M
 random-entries-spec =
