@@ -1,4 +1,5 @@
--- An accepted call keeps the invariant: closing (or not), then assignment; and in discovery a dimension more, or its end.
+-- An accepted call keeps the invariant: closing (or not), then assignment; in discovery a dimension more, or its end. The state between closing and
+-- assignment meets the invariant too, so the two are shown apart (Close, Serve).
 use Rattle.ledger.specs.Kernel.{Gen, Made, Kernel, Laws}
 use Rattle.ledger.specs.Call.{Call, anyBad}
 use Rattle.ledger.specs.State.{Trial, numbers, State, startGen}
@@ -7,7 +8,8 @@ use Rattle.ledger.specs.Assignment.{placeIn, Accepted, assign}
 use Rattle.ledger.specs.Soundness.{Sound}
 use Rattle.ledger.specs.Sample.{discovers, sampling, begin, discovery, accept}
 use Rattle.ledger.specs.Ledger.{OpenTrial, isFirst, Ledger, addDimension, endDiscovery, closeGeneration, addCall, sampled, discovered, accepted}
-use Rattle.ledger.specs.Run.{Sampler, Moment, after}
+use Rattle.ledger.specs.Sampler.{Sampler}
+use Rattle.ledger.specs.Claim.{Moment}
 use Rattle.ledger.proofs.Lists.{some-inj, bind-some, snoc-length, length-map}
 use Rattle.ledger.proofs.Trials.{place-le, move-length}
 use Rattle.ledger.proofs.Results.{counted-is}
@@ -32,11 +34,11 @@ module _ (K : Kernel) (L : Laws K) (X : Sampler K) where
   open Laws L using (sized, firsts-length, firsts-fit)
 
   -- what is shown of it: the invariant, its setting, and that it closes a generation on the state where it does on the ledger
-  pub record Full (S : Setup) (ms : List (Moment K X)) (s : State K) (l : Ledger K) (n : ℕ) (a : Accepted K) (l′ : Ledger K) : Type 0 where
+  pub record Full (S : Setup) (ms : List (Moment K X S)) (s : State K) (l : Ledger K) (n : ℕ) (a : Accepted K) (l′ : Ledger K) : Type 0 where
     pub done : Done K L X S ms n a l′
     pub closes : (length (a .state .trials) < length (s .trials)) ↔ (length (l .generations) < length (l′ .generations))
 
-  module _ (S : Setup) (ms : List (Moment K X)) where
+  module _ (S : Setup) (ms : List (Moment K X S)) where
     sampling-ok : (s : State K) (l : Ledger K) → Inv K L X S ms s l → Sound K S s → (N : ℕ) → l .size ≡ some N → (N ≤ length (l .openTrials) → Seen K L X S ms l)
         → (c : Call K) → anyBad K (c .history) ≡ false → (g : Gen Word) (a : Accepted K) → sampling K S N s c g ≡ some a → Sound K S (a .state) → Full S ms s l (c .number) a (sampled K N l c)
     unfolding sampling

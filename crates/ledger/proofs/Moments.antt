@@ -1,5 +1,5 @@
 -- Each call keeps what holds where a list stands: first of the definition's call, whatever comes of it, then of a sampler that meets the definition.
-use Rattle.ledger.specs.Words.{orElse, _>>=_, refuseIf, isNone}
+use Rattle.ledger.specs.Words.{orElse, refuseIf, isNone}
 use Rattle.ledger.specs.Kernel.{Kernel, Laws}
 use Rattle.ledger.specs.Call.{Call, anyBad, callRefusal}
 use Rattle.ledger.specs.State.{State, fresh, given, Result, refuse}
@@ -7,8 +7,8 @@ use Rattle.ledger.specs.Assignment.{Accepted}
 use Rattle.ledger.specs.Soundness.{Sound}
 use Rattle.ledger.specs.Sample.{stateRefusal, accept, outcome, step, sample, elevenAt}
 use Rattle.ledger.specs.Ledger.{Ledger, empty, refusalOf, accepted, unlessRefused, enterCall}
-use Rattle.ledger.specs.Run.{Sampler, Point, Moment, moment, ran, definedResult, tableRefusal, after, start, viewed, Meets}
-use Rattle.ledger.specs.Claim.{refusalIn, settingIn, LedgerCloses, SamplerCloses, HandedBack}
+use Rattle.ledger.specs.Sampler.{Sampler, viewed, Meets}
+use Rattle.ledger.specs.Claim.{refusalIn, settingIn, Point, Moment, moment, ran, definedResult, tableRefusal, after, start, LedgerCloses, SamplerCloses, HandedBack}
 use Rattle.ledger.proofs.Lists.{none≢some, neither, not-refused}
 use Rattle.ledger.proofs.Agree.{refusals-agree}
 use Rattle.ledger.proofs.Sound.{accept-sound, fresh-sound}
@@ -23,11 +23,10 @@ use Prim.Native.Nat.{ℕ, suc, _<_}
 use native.Mathlib.Omega.{arith}
 use lib.ListN.{length, getElem?}
 
--- what can come of a call of the definition: a refusal, or an accepted call that no refusal is for
 module _ (K : Kernel) (L : Laws K) where
-  open Kernel K using (Setup, Distribution, Candidate, judged, decode, Fits)
-  open Laws L using (sized)
+  open Kernel K using (Setup, Candidate, judged, decode, Fits)
 
+  -- what can come of a call of the definition: a refusal, or an accepted call that no refusal is for
   outcomes : (P : Result K (State K) → Option ℕ → Type 0) (s : State K) (a b : Option ℕ) (o : Option (Accepted K)) → ((r : ℕ) → P (refuse K r s) (some r))
       → ((x : Accepted K) → a ≡ none → b ≡ none → o ≡ some x → P (record { answer = given (x .setting); draws = x .draws; state = x .state }) none)
       → P (outcome K s (orElse a b) o) (orElse a (orElse b (refuseIf (isNone o) 11)))
@@ -39,7 +38,7 @@ module _ (K : Kernel) (L : Laws K) where
   module _ (X : Sampler K) (S : Setup) where
     -- ---- the definition's call
 
-    module _ (ms : List (Moment K X)) (s : State K) (l : Ledger K) (c : Call K) (v : Inv K L X S ms s l) (u : Sound K S s) (seen : Seen K L X S ms l) where
+    module _ (ms : List (Moment K X S)) (s : State K) (l : Ledger K) (c : Call K) (v : Inv K L X S ms s l) (u : Sound K S s) (seen : Seen K L X S ms l) where
       -- what is shown of a call with this result, by this refusal
       abbrev next : Option ℕ → Ledger K
       next f = unlessRefused K f l (accepted K S (l .size) l c)
@@ -77,30 +76,30 @@ module _ (K : Kernel) (L : Laws K) where
 
     module _ (meets : Meets K X S) where
       -- what holds where a list stands
-      pub record Stands (ms : List (Moment K X)) (p : Point K X) : Type 0 where
+      pub record Stands (ms : List (Moment K X S)) (p : Point K X S) : Type 0 where
         pub inv : Inv K L X S ms (p .defined) (p .ledger)
         pub sound : Sound K S (p .defined)
         pub seen : Seen K L X S ms (p .ledger)
         pub clean : meets .Clean (p .state)
         pub agrees : X .view (p .state) ≡ p .defined
 
-      module _ (ms : List (Moment K X)) (p : Point K X) (h : Stands ms p) (c : Call K) where
-        abbrev m : Moment K X
-        m = moment K X p c
+      module _ (ms : List (Moment K X S)) (p : Point K X S) (h : Stands ms p) (c : Call K) where
+        abbrev m : Moment K X S
+        m = moment K X S p c
 
         r : Shown ms (p .defined) (p .ledger) c (h .inv) (h .sound) (h .seen) (sample K S (p .defined) c) (tableRefusal K X S m)
         r = shown ms (p .defined) (p .ledger) c (h .inv) (h .sound) (h .seen)
 
-        result : viewed K X (ran K X m) ≡ definedResult K X S m
+        result : viewed K X (ran K X S m) ≡ definedResult K X S m
         result = meets .call-view (p .state) c (h .clean) ∙ ap (λ (s : State K). sample K S s c) (h .agrees)
 
-        answer : (ran K X m) .answer ≡ (definedResult K X S m) .answer
+        answer : (ran K X S m) .answer ≡ (definedResult K X S m) .answer
         answer = ap (λ (x : Result K (State K)). x .answer) result
 
-        state : X .view ((ran K X m) .state) ≡ (definedResult K X S m) .state
+        state : X .view ((ran K X S m) .state) ≡ (definedResult K X S m) .state
         state = ap (λ (x : Result K (State K)). x .state) result
 
-        clean : meets .Clean ((ran K X m) .state)
+        clean : meets .Clean ((ran K X S m) .state)
         clean = meets .call-clean (p .state) c (h .clean)
 
         handed-back : IsSome (tableRefusal K X S m) → HandedBack K X S m
@@ -109,7 +108,7 @@ module _ (K : Kernel) (L : Laws K) where
             record {
               no-setting = ap (settingIn K) answer ∙ b .0;
               no-draws = ap (λ (x : Result K (State K)). x .draws) result ∙ b .1;
-              same-state = meets .view-whole ((ran K X m) .state) (p .state) clean (h .clean) (state ∙ (b .2 ∙ sym (h .agrees)));
+              same-state = meets .view-whole ((ran K X S m) .state) (p .state) clean (h .clean) (state ∙ (b .2 ∙ sym (h .agrees)));
             }
 
         closes-too : SamplerCloses K X S m ↔ LedgerCloses K X S m

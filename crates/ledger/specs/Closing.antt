@@ -45,7 +45,8 @@ module _ (K : Kernel) where
     vs ← resultsOf h ns
     some (v ∷ vs)
 
-  -- if the call closes a generation, its counted results: "The value there of the i-th is the counted result of slot i"
+  -- by N, the open trials' numbers and the history: the counted results, if the call closes a generation ("at least N trials are assigned and its history has
+  -- the first N"). "The value there of the i-th is the counted result of slot i."
   unfoldable pub counted : ℕ → List ℕ → List Entry → Option (List Float)
   counted N ns h = cond (leb N (length ns)) (resultsOf h (take N ns)) none
 
@@ -64,7 +65,7 @@ module _ (K : Kernel) where
   select (p ∷ ps) (c ∷ cs) [] = []
   select (p ∷ ps) (c ∷ cs) (r ∷ rs) = cond (le r (p .value)) (record { candidate = c; value = r }) p ∷ select ps cs rs
 
-  -- by the count of generations closed before
+  -- the one or the other, by the count of generations closed before
   abbrev pub newParents : ℕ → List (Parent Candidate) → List Candidate → List Float → List (Parent Candidate)
   newParents zero ps cs row = store cs row
   newParents (suc k) ps cs row = select ps cs row

@@ -65,6 +65,6 @@ module _ (K : Kernel) where
     pub draws : ℕ
     pub state : Kept
 
-  -- A refusal "has no setting, counts zero draws and hands back the state that came in, generator word included".
+  -- Demand 1: a refusal "has no setting, counts zero draws and hands back the state that came in, generator word included".
   abbrev pub refuse : {Kept : Type 0} → ℕ → Kept → Result Kept
   refuse r s = record { answer = refused r; draws = 0; state = s }
