@@ -1,0 +1,3 @@
+pub mod On
+pub mod Asking
+pub mod Gather

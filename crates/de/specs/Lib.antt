@@ -1,0 +1,6 @@
+pub mod Build
+pub mod Answer
+pub mod Sample
+pub mod Look
+pub mod Gathered
+pub mod Ask
