@@ -4,6 +4,9 @@ use distribution::DimensionInfo;
 use evolution::Member;
 use evolution::Setup;
 
+pub mod places;
+pub mod setup;
+
 // An open trial: its number, and the dimension that its next call gives. The i-th one has candidate i.
 pub struct TrialProgress {
     pub number: u64,
