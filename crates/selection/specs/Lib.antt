@@ -1,2 +1,4 @@
-pub mod Size
 pub mod Select
+pub mod Best
+pub mod Size
+pub mod Records

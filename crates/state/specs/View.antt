@@ -10,7 +10,7 @@ use Rattle.candidates.specs.Candidate.{blankCandidate}
 use Rattle.candidates.specs.declared.Candidate.{Candidate}
 use Rattle.evolution.specs.declared.Member.{Member}
 use Rattle.evolution.specs.declared.Setup.{Setup}
-use Rattle.selection.specs.Select.{blankMember}
+use Rattle.selection.specs.Records.{blankMember}
 use Rattle.ledger.specs.Kernel.{Parent}
 use Rattle.ledger.specs.State as Plain
 use Rattle.kernel.specs.De.{de, memberOf}

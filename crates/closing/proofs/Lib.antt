@@ -1,0 +1,3 @@
+pub mod When
+pub mod Links
+pub mod Refine

@@ -1,0 +1,5 @@
+pub mod Stays
+pub mod Slots
+pub mod Running
+pub mod Best
+pub mod Examples
