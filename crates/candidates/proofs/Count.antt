@@ -1,5 +1,4 @@
 -- The draws of random candidates: at most one for each dimension, and exactly one where every categorical dimension has a choice (refusal 7).
--- ---- entries: one draw each
 use Prim.Native.Nat.{ℕ, zero, suc, _+_, _*_, _<_, _≤_}
 use native.Mathlib.Omega.{arith}
 use native.Mathlib.Nat.{mul-le-mul-left}
@@ -23,6 +22,7 @@ use Rattle.candidates.specs.Random.{randomEntry, entryAt, randomEntries,
 use Rattle.candidates.specs.declared.Space.{Space}
 use Rattle.candidates.proofs.Lists.{next-drop}
 
+-- ---- entries: one draw each
 entries-from : (s : Space) (k i : ℕ) (g : Gen) → many (entryAt s) k i g .after .draws ≡ g .draws + k
 unfolding many randomEntry drawOf
 entries-from s zero i g = omega arith

@@ -1,5 +1,4 @@
 -- A loop that fills an array without a draw: `listed`, as `Part` with a generator that stays.
--- any generator serves
 use Prim.Native.Nat.{ℕ, _+_, _<_, _≤_}
 use mathlib.Core.Path.{_≡_, refl, ap, _∙_}
 use mathlib.Core.List.{List}
@@ -8,6 +7,7 @@ use Rattle.rng_util.specs.Many.{padTo, listed}
 use Rattle.rng_util.specs.declared.Gen.{Gen}
 use Rattle.rng_util.proofs.Parts.{Part, part-first, part-again, part-last, still, many-still}
 
+-- any generator serves
 abbrev noGen : Gen
 noGen = record { word = 0; draws = 0 }
 

@@ -1,5 +1,4 @@
 -- Laws on lists that this crate's proofs and those above cite.
--- within the list the default of a read does not matter
 use Prim.Native.Nat.{ℕ, zero, suc, _+_, _<_, _≤_}
 use native.Mathlib.Nat.{not-suc-le-zero, le-of-suc-le-suc}
 use native.Mathlib.Numerals.{add-one}
@@ -10,6 +9,7 @@ use lib.ListN.{length, getD, drop, take}
 use lib.Seq.{drop-cons}
 use Rattle.rng_util.specs.Many.{listed}
 
+-- within the list the default of a read does not matter
 pub default-free : {A : Type 0} (xs : List A) (i : ℕ) (y z : A) → i < length xs → getD xs i y ≡ getD xs i z
 default-free [] i y z h = absurd (not-suc-le-zero h)
 default-free (x ∷ xs) zero y z h = refl

@@ -1,5 +1,4 @@
 -- The search for a NaN: an entry at a time, and a candidate at a time.
--- a number equals itself
 use Prim.Native.Nat.{ℕ, _+_, _*_, _<_, _≤_}
 use mathlib.Core.Path.{_≡_, refl, sym, ap, _∙_}
 use mathlib.Core.Bool.{Bool, true, false, not, _&&_}
@@ -12,6 +11,7 @@ use Rattle.candidates.specs.Nan.{anyNan, anyBad}
 use Rattle.candidates.specs.declared.Candidate.{Candidate}
 use Rattle.candidates.proofs.Lists.{next-drop}
 
+-- a number equals itself
 same : (t : Bool) → T t → not (t && true) ≡ false
 same true h = refl
 

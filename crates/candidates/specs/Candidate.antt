@@ -1,5 +1,4 @@
 -- A candidate: a vector with an entry for each continuous dimension, and a choice for each of the others (document 01, "Records").
--- "unused places are as in a fresh state": zeros
 use Prim.Native.Nat.{ℕ}
 use mathlib.Core.List.{List}
 use lib.Ieee.{Float}
@@ -12,6 +11,7 @@ use Rattle.common.specs.Bounds.{zeroF}
 use Rattle.candidates.specs.Space.{continuousCount}
 use Rattle.candidates.specs.declared.Candidate.{Candidate}
 
+-- "unused places are as in a fresh state": zeros
 abbrev pub packed : List Float → List ℕ → Candidate
 packed xs cs = record { x = padTo 16 zeroF xs; choices = padTo 16 0 cs }
 

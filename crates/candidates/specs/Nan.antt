@@ -1,10 +1,10 @@
 -- Refusal 11: "a new candidate's entry is NaN".
--- an entry of a vector is NaN
 use mathlib.Core.Bool.{Bool, false, _||_}
 use mathlib.Core.List.{List, [], _∷_}
 use lib.Ieee.{Float, isNan}
 use Rattle.candidates.specs.declared.Candidate.{Candidate}
 
+-- an entry of a vector is NaN
 unfoldable pub anyNan : List Float → Bool
 unfolding isNan
 anyNan [] = false

@@ -1,5 +1,4 @@
 -- Step 2: "Random candidate: continuous entries by `f64_range` in dimension order, then choices in dimension order."
--- an entry "by `f64_range`" between its dimension's bounds: one draw
 use Prim.Native.Nat.{ℕ}
 use mathlib.Core.Bool.{cond}
 use mathlib.Core.List.{List}
@@ -15,6 +14,7 @@ use Rattle.candidates.specs.Candidate.{packed}
 use Rattle.candidates.specs.declared.Candidate.{Candidate}
 use Rattle.candidates.specs.declared.Space.{Space}
 
+-- an entry "by `f64_range`" between its dimension's bounds: one draw
 unfoldable pub randomEntry : Bounds → Gen → Made Float
 randomEntry b g = made (rangeOf (b .low) (b .high) (unitOf (drawOf g .output))) (drawOf g .after)
 

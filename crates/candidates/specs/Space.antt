@@ -1,5 +1,4 @@
 -- The search space: what the draws read of the dimensions.
--- "Float and Int are continuous": those dimensions, in order
 use Prim.Native.Nat.{ℕ, _<_, _≤_}
 use mathlib.Core.Bool.{cond}
 use mathlib.Core.List.{List, [], _∷_, map}
@@ -12,6 +11,7 @@ use Rattle.common.specs.declared.Bounds.{Bounds}
 use Rattle.candidates.specs.declared.Spans.{Spans}
 use Rattle.candidates.specs.declared.Space.{Space}
 
+-- "Float and Int are continuous": those dimensions, in order
 unfoldable pub continuousDims : List DimensionInfo → List DimensionInfo
 continuousDims [] = []
 continuousDims (d ∷ ds) = cond (isContinuous d) (d ∷ continuousDims ds) (continuousDims ds)

@@ -1,4 +1,5 @@
 pub mod PlaceLaws
+pub mod Settings
 pub mod Steps
 pub mod Strides
 pub mod Valid

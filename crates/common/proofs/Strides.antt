@@ -4,11 +4,10 @@ use Prim.Native.Nat.{ℕ, _+_, _*_, _/_, _%_, _^_, _≤_, _<_}
 use native.Mathlib.Nat.{add-zero, zero-add, mul-le-mul-right, div-add-mod', div-lt-iff-lt-mul, mod-lt}
 use native.Mathlib.Omega.{arith}
 use lib.IntN.{ℤ, pos, negsuc, natAbs, _-ℤ_}
-use lib.Dec.{leb→le}
-use lib.Signed.{_≤ℤ_, quotZ, pos-natAbs}
+use lib.Dec.{ltb→lt}
+use lib.Signed.{_≤ℤ_, _<ℤ_, quotZ, pos-natAbs}
 use Rattle.rng_util.specs.Draws.{i64Of}
 use Rattle.rng_util.proofs.Signed.{gap-le, gap-nonNeg}
-use Rattle.common.proofs.Valid.{Ordered, Upward}
 
 -- ---- in numbers from 0
 
@@ -29,21 +28,21 @@ at-most output n = let h = mod-lt output {m = n + 1} (omega arith) in omega arit
 
 -- ---- in integers
 
-pub gap-is : {low high : ℤ} → Ordered low high → high -ℤ low ≡ pos (natAbs (high -ℤ low))
-gap-is {low} {high} o = sym (pos-natAbs (high -ℤ low) (gap-nonNeg low high (o .order)))
+pub gap-is : {low high : ℤ} → low ≤ℤ high → high -ℤ low ≡ pos (natAbs (high -ℤ low))
+gap-is {low} {high} o = sym (pos-natAbs (high -ℤ low) (gap-nonNeg low high o))
 
-pub gap-fits : {low high : ℤ} → Ordered low high → natAbs (high -ℤ low) ≤ 2 ^ 54
-gap-fits {low} {high} o = omega (arith, gap-le high low, o .low-fits, o .high-fits)
+pub gap-fits : (low high : ℤ) → natAbs low ≤ 2 ^ 53 → natAbs high ≤ 2 ^ 53 → natAbs (high -ℤ low) ≤ 2 ^ 54
+gap-fits low high l h = omega (arith, gap-le high low)
 
-from-1-is : (z : ℤ) → pos 1 ≤ℤ z → (z ≡ pos (natAbs z)) × (1 ≤ natAbs z)
-from-1-is (pos n) h = (refl, leb→le 1 n (h .le))
-from-1-is (negsuc n) h = absurd (h .le)
+above-zero-is : (z : ℤ) → pos 0 <ℤ z → (z ≡ pos (natAbs z)) × (1 ≤ natAbs z)
+above-zero-is (pos n) h = (refl, ltb→lt 0 n (h .lt))
+above-zero-is (negsuc n) h = absurd (h .lt)
 
-pub step-is : {step : ℤ} → Upward step → step ≡ pos (natAbs step)
-step-is {step} u = from-1-is step (u .from-1) .0
+pub step-is : {step : ℤ} → pos 0 <ℤ step → step ≡ pos (natAbs step)
+step-is {step} u = above-zero-is step u .0
 
-pub step-from-1 : {step : ℤ} → Upward step → 1 ≤ natAbs step
-step-from-1 {step} u = from-1-is step (u .from-1) .1
+pub step-from-1 : {step : ℤ} → pos 0 <ℤ step → 1 ≤ natAbs step
+step-from-1 {step} u = above-zero-is step u .1
 
-pub steps-are : {low high step : ℤ} → Ordered low high → Upward step → quotZ (high -ℤ low) step ≡ pos (natAbs (high -ℤ low) / natAbs step)
+pub steps-are : {low high step : ℤ} → low ≤ℤ high → pos 0 <ℤ step → quotZ (high -ℤ low) step ≡ pos (natAbs (high -ℤ low) / natAbs step)
 steps-are o u = λ i. quotZ (gap-is o i) (step-is u i)

@@ -19,17 +19,20 @@ use Rattle.rounding.specs.Clamp.{clampOf}
 
 -- ---- Float: doubles, one rounding per operation, in the Rust's order
 
+-- "with a step, k = round((v - low)/step), then low + k × step"
 unfoldable pub onStep : FloatStep → Float → Float → Float
 unfolding roundAway add sub mul div
 onStep F.Unset low v = v
 onStep (F.By step) low v = add binary64 low (mul binary64 (roundAway (div binary64 (sub binary64 v low) step)) step)
 
+-- "then clamp"
 unfoldable pub fromFloat : Float → FloatDistribution → Float
 unfolding clampOf onStep
 fromFloat v d = clampOf (onStep (d .step) (d .low) v) (d .low) (d .high)
 
 -- ---- Int: k is rounded as a double, and from there on the numbers are exact
 
+-- "with a step, k likewise, low + k × step, else round(v)"
 unfoldable pub onStepZ : IntStep → ℤ → Float → ℤ
 unfolding wholeZ sub div ofInt
 onStepZ I.Unset low v = wholeZ v
@@ -39,6 +42,7 @@ onStepZ (I.By step) low v = low +ℤ wholeZ (div binary64 (sub binary64 v (ofInt
 unfoldable pub clampZ : ℤ → ℤ → ℤ → ℤ
 clampZ z low high = cond (ltZ z low) low (cond (ltZ high z) high z)
 
+-- "then clamp"
 unfoldable pub fromInt : Float → IntDistribution → ℤ
 unfolding clampZ onStepZ
 fromInt v d = clampZ (onStepZ (d .step) (d .low) v) (d .low) (d .high)

@@ -18,18 +18,19 @@ use Rattle.distribution.specs.declared.ParamValue.the-variants as P
 use Rattle.rounding.specs.Floor.{floorOf}
 use Rattle.common.specs.declared.RandomSetting.{RandomSetting}
 
--- in doubles, one rounding per operation, in the Rust's order
+-- Float: in doubles, one rounding per operation, in the Rust's order
 unfoldable pub randomFloat : FloatStep → Float → Float → ℕ → Float
 unfolding unitOf floorOf ofInt add sub mul div
 randomFloat F.Unset low high output = rangeOf low high (unitOf output)
 randomFloat (F.By step) low high output =
     add binary64 low (mul binary64 (ofInt binary64 (i64Of output (pos 0) (pos (floorOf (div binary64 (sub binary64 high low) step))))) step)
 
--- exact; with a step k = `i64(0..=n)`, n the whole steps from low to high
+-- Int: exact. With a step k = `i64(0..=n)`, n = (high - low) / step in whole numbers, as the Rust divides them.
 unfoldable pub randomInt : IntStep → ℤ → ℤ → ℕ → ℤ
 randomInt I.Unset low high output = i64Of output low high
 randomInt (I.By step) low high output = low +ℤ i64Of output (pos 0) (quotZ (high -ℤ low) step) *ℤ step
 
+-- the setting that one output gives
 unfoldable pub randomValue : Distribution → ℕ → ParamValue
 unfolding randomFloat randomInt
 randomValue (D.Float d) output = P.Float (randomFloat (d .step) (d .low) (d .high) output)
@@ -41,5 +42,6 @@ unfoldable pub randomSetting : Distribution → Gen → Made ParamValue
 unfolding randomValue drawOf
 randomSetting d g = made (randomValue d (drawOf g .output)) (drawOf g .after)
 
+-- as the code hands it out
 abbrev pub randomRec : Made ParamValue → RandomSetting
 randomRec m = record { setting = m .out; after = m .after }

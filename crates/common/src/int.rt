@@ -2,7 +2,7 @@
 ghost use mathlib.Core.Path.{_≡_};
 ghost use Prim.Native.Nat.{min, _≤_, _^_};
 ghost use lib.IntN.{pos, natAbs, _+ℤ_, _*ℤ_};
-ghost use lib.Signed.{_≤ℤ_};
+ghost use lib.Signed.{_≤ℤ_, _<ℤ_};
 ghost use Rattle.distribution.specs.Validate.{verdictOf, intBoundFails};
 ghost use Rattle.rounding.specs.Round.{wholeZ};
 ghost use Rattle.common.specs.Places.{placeOf, atPlace, lastPlace};
@@ -61,7 +61,7 @@ pub fn too_large(x: i64) -> bool
 // low + k × step, k the drawn number of steps.
 fn random_step(output: u64, low: i64, high: i64, step: i64) -> i64
     requires { ⌜ (low ≤ℤ high) × (natAbs low ≤ 2 ^ 53) × (natAbs high ≤ 2 ^ 53) ⌝ }
-    requires { ⌜ (pos 1 ≤ℤ step) × (natAbs step ≤ 2 ^ 53) ⌝ }
+    requires { ⌜ pos 0 <ℤ step ⌝ }
     ensures { λ r. ⌜ r ≡ randomInt (IntStep.By step) low high output ⌝ }
 {
     let n_steps = (high - low) / step;

@@ -4,11 +4,11 @@ mod int;
 mod places;
 
 ghost use mathlib.Core.Path.{_≡_};
-ghost use Rattle.common.specs.Bounds.{bounds, intBounds};
 ghost use Prim.Native.Nat.{_^_, _<_};
 ghost use Rattle.distribution.specs.Validate.{verdictOf};
+ghost use Rattle.common.specs.Bounds.{bounds, intBounds};
 ghost use Rattle.common.specs.FromInternal.{fromInternal};
-ghost use Rattle.common.specs.ToInternal.{settingFails, asDouble, toInternal};
+ghost use Rattle.common.specs.ToInternal.{settingFails, asDouble, toInternal, internalRefusal, settingRefusal};
 ghost use Rattle.common.specs.Random.{randomValue, randomSetting, randomRec};
 use distribution::Distribution;
 use distribution::IntDistribution;
@@ -102,7 +102,7 @@ fn as_double(value: ParamValue, d: Distribution) -> f64
 
 // The internal double of a setting.
 pub fn to_internal(value: ParamValue, d: Distribution) -> Internal
-    ensures { λ r. ⌜ r ≡ toInternal value d ⌝ }
+    ensures { λ r. ⌜ (r ≡ toInternal value d) × (internalRefusal r ≡ settingRefusal value d) ⌝ }
 {
     let verdict = distribution::validate::validate(d);
     match verdict {

@@ -1,5 +1,4 @@
 -- The indices of a slot: below N, other than the slot and than each other, and how many draws they take.
--- two of them, always
 use Prim.Native.Nat.{ℕ, _+_, _<_, _≤_}
 use native.Mathlib.Omega.{arith}
 use mathlib.Core.Path.{_≡_, ap, _∙_}
@@ -15,6 +14,7 @@ use Rattle.evolution.specs.declared.Indices.{Indices}
 use Rattle.evolution.specs.declared.DrawnIndex.{DrawnIndex}
 use Rattle.evolution.proofs.Free.{select-free, select-below, select-draws, select-same, once-free, both-free, free-first, free-rest}
 
+-- two of them, always
 pub record Apart (N i : ℕ) (t : Indices) : Type 0 where
   pub below-1 : t .r1 < N
   pub below-2 : t .r2 < N

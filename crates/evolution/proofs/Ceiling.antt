@@ -1,5 +1,4 @@
 -- The draws of a later generation: at most N × (3,072 + D) under Rand1 and N × (2,048 + D) under the others, since there is none at j*.
--- 1,024 draws for each index
 use Prim.Native.Nat.{ℕ, zero, suc, _+_, _*_, _<_, _≤_}
 use native.Mathlib.Nat.{mod-lt, mul-add}
 use native.Mathlib.Omega.{arith}
@@ -33,6 +32,7 @@ use Rattle.evolution.specs.declared.DEStrategy.the-variants.{Rand1, Best
 use Rattle.evolution.proofs.Apart.{indices-draws, indices-draws-two}
 use Rattle.evolution.proofs.Draws.{cross-draws}
 
+-- 1,024 draws for each index
 abbrev pub tries : DEStrategy → ℕ
 tries s = 1024 * indexCount s
 

@@ -1,5 +1,4 @@
 -- One index: the loop a draw at a time, and that what is selected is below N and free. Of four indices, three that are taken hit at most three.
--- ---- the loop, a draw at a time
 use Prim.Native.Nat.{ℕ, zero, suc, _+_, _-_, _<_, _≤_}
 use native.Mathlib.Nat.{mod-lt}
 use native.Mathlib.Omega.{arith}
@@ -16,6 +15,7 @@ use Rattle.rng_util.specs.declared.Drawn.{Drawn}
 use Rattle.rng_util.proofs.Parts.{left, none}
 use Rattle.evolution.specs.Select.{isFree, lowestFree, selectFrom}
 
+-- ---- the loop, a draw at a time
 module _ (N : ℕ) (ts : List ℕ) (k : ℕ) (g : Gen) where
   module _ (d : Drawn) (i : ℕ) (r : Bool) (h : k < 1024) (e : d ≡ drawOf g) (q : i ≡ usizeOf (d .output) N) (f : r ≡ isFree ts i) where
     index-is : i ≡ usizeOf (drawOf g .output) N

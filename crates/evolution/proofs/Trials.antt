@@ -1,5 +1,4 @@
 -- Mutants, crossover and trial vectors, with the code's call results as variables.
--- ---- an entry of the mutant
 use Prim.Native.Nat.{ℕ, _<_, _≤_}
 use native.Mathlib.Omega.{arith}
 use mathlib.Core.Path.{_≡_, refl, sym, ap, _∙_}
@@ -34,6 +33,7 @@ use Rattle.evolution.specs.declared.DEStrategy.the-variants.{Rand1, Best
 use Rattle.evolution.proofs.Flat.{row-entry, many-same, flat-entry}
 use Rattle.evolution.proofs.Apart.{indices-apart, third-below}
 
+-- ---- an entry of the mutant
 module _ (s : DEStrategy) (F x b x1 x2 x3 : Float) where
   pub by-rand1 : s ≡ Rand1 → add binary64 x1 (mul binary64 F (sub binary64 x2 x3)) ≡ mutantEntry s F x b x1 x2 x3
   unfolding mutantEntry

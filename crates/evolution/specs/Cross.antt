@@ -1,5 +1,4 @@
 -- Step 4: binomial crossover, the paper's (3) and (4) but for the strict test.
--- "Each entry is clamped."
 use Prim.Native.Nat.{ℕ}
 use mathlib.Core.Bool.{cond}
 use mathlib.Core.List.{List}
@@ -15,6 +14,7 @@ use Rattle.common.specs.declared.Bounds.{Bounds}
 use Rattle.candidates.specs.Random.{nanBounds}
 use Rattle.candidates.specs.declared.Space.{Space}
 
+-- "Each entry is clamped."
 abbrev pub judgedEntry : Bounds → Float → Float
 judgedEntry b v = clampOf v (b .low) (b .high)
 

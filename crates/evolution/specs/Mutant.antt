@@ -1,5 +1,4 @@
 -- Step 3: mutation. `x r j` is entry j of the vector of slot r, the paper's x_{r,G}; every operation is one of doubles, rounded once.
--- what a read past the end of an array of members gives
 use Prim.Native.Nat.{ℕ}
 use mathlib.Core.List.{List, []}
 use lib.Ieee.{Float, nan, binary64, add, sub, mul}
@@ -14,6 +13,7 @@ use Rattle.evolution.specs.declared.Setup.{Setup}
 use Rattle.evolution.specs.declared.DEStrategy.{DEStrategy}
 use Rattle.evolution.specs.declared.DEStrategy.the-variants.{Rand1, Best1, CurrentToBest1}
 
+-- what a read past the end of an array of members gives
 abbrev pub noMember : Member
 noMember = record { candidate = record { x = []; choices = [] }; value = nan }
 

@@ -1,5 +1,4 @@
 -- Step 3's indices: "Indices are drawn below N, rejected if equal to i or already taken: three for Rand1, two otherwise."
--- r is none of those taken
 use Prim.Native.Nat.{ℕ, zero, suc}
 use mathlib.Core.Bool.{Bool, true, false, cond}
 use mathlib.Core.List.{List, [], _∷_}
@@ -11,6 +10,7 @@ use Rattle.evolution.specs.declared.Indices.{Indices}
 use Rattle.evolution.specs.declared.DEStrategy.{DEStrategy}
 use Rattle.evolution.specs.declared.DEStrategy.the-variants.{Rand1, Best1, CurrentToBest1}
 
+-- r is none of those taken
 unfoldable pub isFree : List ℕ → ℕ → Bool
 isFree [] r = true
 isFree (t ∷ ts) r = cond (eqb r t) false (isFree ts r)

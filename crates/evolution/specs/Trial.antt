@@ -1,5 +1,4 @@
 -- Steps 3 and 4 for every slot: the candidates of a later generation.
--- "Crossover: one index j* is drawn below n", after the indices t of slot i; its mutant and its parent are crossed
 use Prim.Native.Nat.{ℕ}
 use mathlib.Core.Bool.{cond}
 use mathlib.Core.List.{List}
@@ -19,6 +18,7 @@ use Rattle.evolution.specs.declared.Indices.{Indices}
 use Rattle.evolution.specs.declared.Member.{Member}
 use Rattle.evolution.specs.declared.Setup.{Setup}
 
+-- "Crossover: one index j* is drawn below n", after the indices t of slot i; its mutant and its parent are crossed
 abbrev pub crossWith : Setup → (ℕ → ℕ → Float) → ℕ → Space → ℕ → Indices → Made (List Float)
 crossWith S x best s i t =
     let d = drawOf (t .after) in

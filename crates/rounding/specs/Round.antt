@@ -22,6 +22,7 @@ roundAway nan = nan
 roundAway (inf s) = inf s
 roundAway (fin s m e) = round binary64 s (wholeSize (fin s m e)) 1
 
+-- the sign; a NaN has none
 unfoldable pub negative : Float → Bool
 negative nan = false
 negative (inf s) = s

@@ -3,16 +3,17 @@ mod powers;
 
 ghost use mathlib.Core.Path.{_≡_};
 ghost use mathlib.Core.Bool.{not};
-ghost use Prim.Native.Nat.{_+_, _-_, _*_, _/_, _^_, _<_, _≤_, min};
+ghost use Prim.Native.Nat.{_-_, _^_, _<_, _≤_, min};
 ghost use lib.Dec.{T};
 ghost use lib.Ieee.{binary64, isNan, ofBits};
 ghost use Rattle.rounding.specs.Round.{nearestWhole, wholeSize, roundAway};
 ghost use Rattle.rounding.specs.Floor.{floorOf};
 ghost use Rattle.rounding.specs.Clamp.{clampOf};
 
-// 2^63, the weight of the sign, and 2^52, the weight of the exponent and of the digit before the 52.
+// 2^63: the weight of the sign in the pattern.
 const SIGN: u64 = 0x8000_0000_0000_0000;
 
+// 2^52: the weight of the exponent in the pattern, and of the leading digit, which the pattern leaves out.
 const LEADING: u64 = 0x10_0000_0000_0000;
 
 // `round`: to the nearest whole number, halves away from zero. From 2^52 on every double is whole.

@@ -1,5 +1,4 @@
 -- The running best of the Rust is the document's best slot, the first least value's, 0 if all are +infinity: for values that are not NaN.
--- no value is NaN
 use Prim.Native.Nat.{ℕ, zero, suc, _+_, _*_, _<_, _≤_}
 use mathlib.Core.Path.{_≡_, refl, sym, _∙_, subst}
 use mathlib.Core.Logic.{_≢_}
@@ -14,6 +13,7 @@ use Rattle.ledger.specs.Words.{All}
 use Rattle.ledger.specs.Closing.{atMost, bestOf}
 use Rattle.ledger.proofs.Order.{le-trans, le-lt-trans, not-le→lt}
 
+-- no value is NaN
 abbrev pub Numbers : List Float → Type 0
 Numbers = All (λ (v : Float). v ≢ nan)
 

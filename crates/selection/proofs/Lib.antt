@@ -2,4 +2,3 @@ pub mod Stays
 pub mod Slots
 pub mod Running
 pub mod Best
-pub mod Examples

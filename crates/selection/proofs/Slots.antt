@@ -1,5 +1,4 @@
 -- The slots of a closing, one by one: what a loop over them fills or looks for is the definition's list or test.
--- what a read past the end of an array of candidates gives
 use Prim.Native.Nat.{ℕ, zero, suc, _+_, _<_, _≤_}
 use native.Mathlib.Omega.{arith}
 use mathlib.Core.Path.{_≡_, refl, ap, _∙_}
@@ -15,6 +14,7 @@ use Rattle.evolution.specs.Mutant.{noMember}
 use Rattle.evolution.specs.declared.Member.{Member}
 use Rattle.selection.specs.Select.{survivorOf, selected, anyReplaced, stored}
 
+-- what a read past the end of an array of candidates gives
 abbrev noCandidate : Candidate
 noCandidate = record { x = []; choices = [] }
 

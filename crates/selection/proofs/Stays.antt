@@ -1,5 +1,4 @@
 -- The row that stays, and the slot with it, with the code's call results as variables.
--- one more entry of a row is copied
 use Prim.Native.Nat.{ℕ, _+_, _*_, _<_, _≤_}
 use native.Mathlib.Numerals.{add-one}
 use native.Mathlib.Omega.{arith}
@@ -19,6 +18,7 @@ use Rattle.selection.specs.Select.{judged, survivorOf}
 use Rattle.selection.specs.Size.{sizeOf}
 use Rattle.selection.specs.Records.{rowRec}
 
+-- one more entry of a row is copied
 pub copy-more : (row xs : List Float) (j : ℕ) (z : Float) → j < length row → j < 16 → xs ≡ rowRec (take j row) → set xs j (getD row j z) ≡ rowRec (take (j + 1) row)
 copy-more row xs j z h m e =
     let k : length (take j row) ≡ j = length-take-le j row (omega arith) in

@@ -1,11 +1,11 @@
 -- Step 6: what each slot holds after a closing.
--- "The leaf that judges hands back whichever of the two lent rows stays": the trial's where its result is at most the parent's
 use mathlib.Core.Bool.{Bool, false, _||_, cond}
 use mathlib.Core.List.{List, [], _∷_}
 use lib.Ieee.{Float, le}
 use Rattle.candidates.specs.declared.Candidate.{Candidate}
 use Rattle.evolution.specs.declared.Member.{Member}
 
+-- "The leaf that judges hands back whichever of the two lent rows stays": the trial's where its result is at most the parent's
 unfoldable pub judged : List Float → List Float → Float → Float → List Float
 judged parent trial parentValue trialValue = cond (le trialValue parentValue) trial parent
 

@@ -4,9 +4,9 @@ use borrow.Author.Needs.{needs}
 use Rattle.distribution.specs.declared.Distribution.{Distribution}
 use Rattle.distribution.specs.declared.ParamValue.the-variants as P
 use Rattle.distribution.specs.Validate.{verdictOf}
+use Rattle.distribution.proofs.Meaning.{valid-good}
 use Rattle.common.specs.Random.{randomValue}
 use Rattle.common.proofs.PlaceLaws.{own-z}
-use Rattle.common.proofs.Valid.{some-choice}
 use Rattle.common.proofs.random_value.Statement.{statement}
 use Rattle.common.proofs.random_value.Tie as tie
 
@@ -26,7 +26,7 @@ enum-known-d-3 : tie.Need-enum-known-d-3
 enum-known-d-3 c = search needs
 
 usize-below-requires : tie.Need-usize-below-requires
-usize-below-requires c κs = some-choice _ (ap verdictOf (sym (c .before .d3 .given .1)) ∙ c .before .before .before .pre)
+usize-below-requires c κs = valid-good _ (ap verdictOf (sym (c .before .d3 .given .1)) ∙ c .before .before .before .pre) .some-choice
 
 returns : tie.Need-returns
 unfolding randomValue

@@ -1,18 +1,20 @@
 -- `random_int` meets its contract: the step's case chooses the arm; a valid distribution's bounds are in order and small.
 use mathlib.Core.Path.{sym, ap, _∙_, subst}
-use Prim.Native.Nat.{ℕ, _^_, _≤_}
+use Prim.Native.Nat.{ℕ, _≤_}
 use native.Mathlib.Omega.{arith}
 use lib.IntN.{ℤ, pos, natAbs}
-use lib.Signed.{_≤ℤ_}
+use lib.Signed.{_≤ℤ_, _<ℤ_}
 use mir.Syntax.{w64}
 use mir.Val.{SFits, toZ, ofZ}
 use borrow.Author.Needs.{needs}
 use Rattle.rng_util.specs.Draws.{i64Of}
 use Rattle.distribution.specs.declared.IntStep.{IntStep}
 use Rattle.distribution.specs.declared.IntStep.the-variants as I
+use Rattle.distribution.specs.declared.Distribution.the-variants as D
+use Rattle.distribution.proofs.Meaning.{valid-good}
 use Rattle.common.specs.Random.{randomInt}
 use Rattle.common.proofs.PlaceLaws.{own-z}
-use Rattle.common.proofs.Valid.{int-ordered, int-upward}
+use Rattle.common.proofs.Valid.{int-upward}
 use Rattle.common.proofs.int.random_int.Statement.{statement}
 use Rattle.common.proofs.int.random_int.Tie as tie
 
@@ -28,8 +30,8 @@ enum-told c = search needs
 
 i64-between-requires : tie.Need-i64-between-requires
 i64-between-requires c κs =
-    let o = int-ordered (c .before .before .before .before .args .d) (c .before .before .before .before .pre) in
-    read-back (record { sfits = c .before .struct-told .given .0 .1 }) (record { sfits = c .struct-told2 .given .1 .0 .1 }) (o .order, omega (arith, o .low-fits), omega (arith, o .high-fits))
+    let g = valid-good (D.Int (c .before .before .before .before .args .d)) (c .before .before .before .before .pre) in
+    read-back (record { sfits = c .before .struct-told .given .0 .1 }) (record { sfits = c .struct-told2 .given .1 .0 .1 }) (g .ordered, omega (arith, g .small-low), omega (arith, g .small-high))
 
 enum-known-step : tie.Need-enum-known-step
 enum-known-step c = search needs
@@ -38,11 +40,11 @@ random-step-requires : tie.Need-random-step-requires
 random-step-requires c κs =
     let d = c .before .before .before .before .before .args .d in
     let valid = c .before .before .before .before .before .pre in
-    let o = int-ordered d valid in
+    let g = valid-good (D.Int d) valid in
     let u = int-upward d _ valid (c .before .before .before .step .given .1) in
     let s = sym (own-z _ (record { sfits = c .before .before .known-told .given .0 .1 })) in (
-      read-back (record { sfits = c .before .struct-told3 .given .0 .1 }) (record { sfits = c .struct-told4 .given .1 .0 .1 }) (o .order, o .low-fits, o .high-fits),
-      subst (λ (z : ℤ). (pos 1 ≤ℤ z) × (natAbs z ≤ 2 ^ 53)) s (u .from-1, u .step-fits),
+      read-back (record { sfits = c .before .struct-told3 .given .0 .1 }) (record { sfits = c .struct-told4 .given .1 .0 .1 }) (g .ordered, g .small-low, g .small-high),
+      subst (λ (z : ℤ). pos 0 <ℤ z) s u,
     )
 
 returns : tie.Need-returns

@@ -13,37 +13,33 @@ use Rattle.rng_util.proofs.Signed.{mag-le, sum-le}
 use Rattle.common.specs.Random.{randomInt}
 use Rattle.common.proofs.PlaceLaws.{own-z}
 use Rattle.common.proofs.Strides.{product, from-zero, at-most, gap-is, gap-fits, step-is, step-from-1, steps-are}
-use Rattle.common.proofs.Valid.{Ordered, Upward}
 use Rattle.common.proofs.int.random_step.Statement.{statement}
 use Rattle.common.proofs.int.random_step.Tie as tie
 
 module _ (c : tie.Start) where
-  ordered : Ordered (c .args .low) (c .args .high)
-  ordered = record { order = c .pre .0 .0; low-fits = c .pre .0 .1; high-fits = c .pre .0 .2 }
-
-  upward : Upward (c .args .step)
-  upward = record { from-1 = c .pre .1 .0; step-fits = c .pre .1 .1 }
-
   -- the number of steps
   abbrev n : ℕ
   n = natAbs (c .args .high -ℤ c .args .low) / natAbs (c .args .step)
 
+  gap-small : natAbs (c .args .high -ℤ c .args .low) ≤ 2 ^ 54
+  gap-small = gap-fits (c .args .low) (c .args .high) (c .pre .0 .1) (c .pre .0 .2)
+
   n-fits : n ≤ 2 ^ 54
-  n-fits = omega (arith, gap-fits ordered, div-le-self (natAbs (c .args .high -ℤ c .args .low)) (natAbs (c .args .step)))
+  n-fits = omega (arith, gap-small, div-le-self (natAbs (c .args .high -ℤ c .args .low)) (natAbs (c .args .step)))
 
   gap-own : toZ w64 (ofZ w64 (c .args .high)) -ℤ toZ w64 (ofZ w64 (c .args .low)) ≡ c .args .high -ℤ c .args .low
   gap-own = λ i. own-z (c .args .high) (c .fits .high) i -ℤ own-z (c .args .low) (c .fits .low) i
 
 sub-n-steps : tie.Need-sub-n-steps
-sub-n-steps c = subst (SFits w64) (sym (gap-own c ∙ gap-is (ordered c))) (record { sfits = omega (arith, gap-fits (ordered c)) })
+sub-n-steps c = subst (SFits w64) (sym (gap-own c ∙ gap-is (c .pre .0 .0))) (record { sfits = omega (arith, gap-small c) })
 
 n-own : (c : tie.Start)
     → quotZ (toZ w64 (ofZ w64 (toZ w64 (ofZ w64 (c .args .high)) -ℤ toZ w64 (ofZ w64 (c .args .low))))) (toZ w64 (ofZ w64 (c .args .step))) ≡ pos (n c)
-n-own c = (λ i. quotZ ((own-z _ (sub-n-steps c) ∙ gap-own c) i) (own-z (c .args .step) (c .fits .step) i)) ∙ steps-are (ordered c) (upward c)
+n-own c = (λ i. quotZ ((own-z _ (sub-n-steps c) ∙ gap-own c) i) (own-z (c .args .step) (c .fits .step) i)) ∙ steps-are (c .pre .0 .0) (c .pre .1)
 
 div-n-steps : tie.Need-div-n-steps
 div-n-steps c = (
-  subst (λ (z : ℤ). 0 < ofZ w64 z) (sym (step-is (upward c))) (step-from-1 (upward c)),
+  subst (λ (z : ℤ). 0 < ofZ w64 z) (sym (step-is (c .pre .1))) (step-from-1 (c .pre .1)),
   subst (SFits w64) (sym (n-own c)) (record { sfits = omega (arith, n-fits c) }),
 )
 
@@ -68,10 +64,10 @@ module _ (c : tie.After-i64-between) where
       ∙ from-zero (c .before .args .output) (n (c .before))
 
   product-own : toZ w64 (ofZ w64 (c .i64-between .result)) *ℤ toZ w64 (ofZ w64 step) ≡ pos (k * natAbs step)
-  product-own = λ i. k-own i *ℤ (own-z step (c .before .fits .step) ∙ step-is (upward (c .before))) i
+  product-own = λ i. k-own i *ℤ (own-z step (c .before .fits .step) ∙ step-is (c .before .pre .1)) i
 
   product-fits : k * natAbs step ≤ 2 ^ 54
-  product-fits = omega (arith, gap-fits (ordered (c .before)), product _ k (natAbs step) (at-most (c .before .args .output) (n (c .before))))
+  product-fits = omega (arith, gap-small (c .before), product _ k (natAbs step) (at-most (c .before .args .output) (n (c .before))))
 
 mul-result : tie.Need-mul-result
 mul-result c = subst (SFits w64) (sym (product-own c)) (record { sfits = omega (arith, product-fits c) })
@@ -94,7 +90,7 @@ returns c =
     let b = c .before in
     own-z _ (add-result c)
     ∙ sum-own c
-    ∙ sym (λ i. b .args .low +ℤ (ap (i64Of (b .args .output) (pos 0)) (steps-are (ordered b) (upward b)) ∙ from-zero (b .args .output) (n b)) i *ℤ step-is (upward b) i)
+    ∙ sym (λ i. b .args .low +ℤ (ap (i64Of (b .args .output) (pos 0)) (steps-are (b .pre .0 .0) (b .pre .1)) ∙ from-zero (b .args .output) (n b)) i *ℤ step-is (b .pre .1) i)
 
 pub random-step-spec : {M : Type 1} → statement M
 random-step-spec =
