@@ -1,12 +1,9 @@
 -- The laws of discovery's functions: what their calls return, put together.
-use Prim.Native.Nat.{ℕ, _+_, _*_, _≤_, _<_}
-use mathlib.Core.Path.{_≡_, refl, sym, ap, _∙_}
-use mathlib.Core.Bool.{Bool, true, false, cond}
-use mathlib.Core.List.{List}
-use native.Mathlib.Omega.{arith}
+use Prim.Native.Nat.{ℕ, _+_, _≤_}
+use mathlib.Core.Path.{_≡_, sym, ap, _∙_}
+use mathlib.Core.Bool.{Bool, true, false}
 use lib.ListN.{set, take}
 use lib.Seq.{take-at}
-use Rattle.rng_util.specs.Gen.{Made}
 use Rattle.rng_util.specs.Many.{padTo}
 use Rattle.rng_util.specs.declared.Gen.{Gen}
 use Rattle.rng_util.proofs.Parts.{many-length}
@@ -18,7 +15,6 @@ use Rattle.candidates.specs.Nan.{anyBad}
 use Rattle.candidates.specs.Random.{candidateAt, randomCandidates}
 use Rattle.candidates.specs.Records.{candidatesRec}
 use Rattle.candidates.specs.Space.{spaceOf}
-use Rattle.candidates.specs.declared.Candidate.{Candidate}
 use Rattle.candidates.specs.declared.DrawnCandidates.{DrawnCandidates}
 use Rattle.candidates.specs.declared.Space.{Space}
 use Rattle.selection.specs.Size.{sizeOf}

@@ -32,8 +32,7 @@ use Rattle.candidates.proofs.Count.{candidate-few}
 use Rattle.kernel.specs.De.{decodeOf, dimIdx}
 use Rattle.state.specs.View.{candidateCount}
 use Rattle.state.specs.declared.State.{State}
-use Rattle.assignment.specs.Raw.{noCandidate, placeOf, dimsOf, decodedBy, settingFor, settingRec, extraRec, candidateFor, missing, withTrial, nextAt, servedWith, assignedAt, rawActive}
-use Rattle.assignment.specs.declared.Accepted.{Accepted}
+use Rattle.assignment.specs.Raw.{noCandidate, placeOf, dimsOf, decodedBy, settingFor, settingRec, extraRec, candidateFor, missing, nextAt, servedWith, rawActive}
 use Rattle.assignment.specs.declared.Assigned.{Assigned}
 use Rattle.assignment.specs.declared.DrawnSetting.{DrawnSetting}
 

@@ -1,11 +1,10 @@
 -- The open trials' numbers: copied out (`Fill`, the house form of a loop that fills), and searched a place at a time.
 use Prim.Native.Nat.{ℕ, suc, _+_, _≤_, _<_}
-use mathlib.Core.Path.{_≡_, refl, sym, ap, _∙_}
-use mathlib.Core.List.{List, [], _∷_, map}
-use native.Mathlib.Omega.{arith}
+use mathlib.Core.Path.{_≡_, ap, _∙_}
+use mathlib.Core.List.{List}
 use native.Mathlib.Numerals.{add-one}
 use borrow.Author.Tests.{eq-eqb, ne-eqb}
-use lib.ListN.{length, getD, drop, take, replicate, length-map, drop-of-length-le}
+use lib.ListN.{length, getD, drop, take, length-map, drop-of-length-le}
 use lib.Seq.{drop-cons, length-take-le, take-at}
 use Rattle.rng_util.specs.Many.{padTo, listed}
 use Rattle.candidates.proofs.Lists.{listed-map}

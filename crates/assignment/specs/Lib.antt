@@ -1,1 +1,2 @@
 pub mod Raw
+pub mod Laid

@@ -2,7 +2,7 @@
 -- so it is finite or NaN, and 11 leaves no NaN; a choice is a remainder by its dimension's number.
 use mathlib.Core.Path.{_≡_, refl, sym, _∙_, subst}
 use mathlib.Core.Bool.{Bool, true, false, cond, true≢false}
-use mathlib.Core.List.{List, [], _∷_, _++_, map, List·Memᴰ, List·Memᴰ·head, List·Memᴰ·tail}
+use mathlib.Core.List.{List, [], _∷_, _++_, map, List·Memᴰ·head, List·Memᴰ·tail}
 use mathlib.Core.Option.{none}
 use Prim.Native.Nat.{ℕ, zero, suc, _+_, _-_, _≤_, _<_, zero-le}
 use native.Mathlib.Nat.{mod-lt, not-suc-le-zero, le-of-suc-le-suc}
@@ -57,7 +57,7 @@ module _ {A : Type 0} (P : A → Type 0) where
   all-at (x ∷ xs) (suc j) z h l = all-at xs j z (λ a t. h a (List·Memᴰ·tail t)) (le-of-suc-le-suc l)
 
   -- of each that is made, where the first m numbers give such
-  all-made : (make : ℕ → Gen → Made A) (m : ℕ) → ((j : ℕ) → j < m → (g : Gen) → P (make j g .out)) → (k i : ℕ) (g : Gen) → i + k ≤ m → All P (many make k i g .out)
+  pub all-made : (make : ℕ → Gen → Made A) (m : ℕ) → ((j : ℕ) → j < m → (g : Gen) → P (make j g .out)) → (k i : ℕ) (g : Gen) → i + k ≤ m → All P (many make k i g .out)
   unfolding many
   all-made make m h zero i g l = all-nil P
   all-made make m h (suc k) i g l = all-cons (make i g .out) _ (h i (omega arith) g) (all-made make m h k (i + 1) (make i g .after) (omega arith))
@@ -67,7 +67,7 @@ module _ {A : Type 0} (P : A → Type 0) where
 abbrev pub Passes : DimensionInfo → Type 0
 Passes d = judged (d .distribution) ≡ none
 
-abbrev Small : Bounds → Type 0
+abbrev pub Small : Bounds → Type 0
 Small b = Within 997 (b .low) × Within 997 (b .high)
 
 bound-small : (x : Float) → GoodBound x → Within 997 x
@@ -92,7 +92,7 @@ all-small (d ∷ ds) h = go (isContinuous d) (all-small ds (λ a t. h a (List·M
     go false r = r
 
 -- the bounds of entry j
-bounds-at : (ds : List DimensionInfo) → All Passes ds → (j : ℕ) → j < continuousCount ds → Small (getD (spaceOf ds .bounds) j nanBounds)
+pub bounds-at : (ds : List DimensionInfo) → All Passes ds → (j : ℕ) → j < continuousCount ds → Small (getD (spaceOf ds .bounds) j nanBounds)
 unfolding spaceOf spansOf
 bounds-at ds h j l =
     let n : j < length (continuousBounds ds) = omega (arith, length-map (continuousDims ds) boundsOf) in
@@ -100,7 +100,7 @@ bounds-at ds h j l =
 
 -- ---- entries
 
-entry-finite : (b : Bounds) (g : Gen) → Small b → T (isFinite (randomEntry b g .out))
+pub entry-finite : (b : Bounds) (g : Gen) → Small b → T (isFinite (randomEntry b g .out))
 unfolding randomEntry drawOf
 entry-finite b g s =
     let u = unitOf (drawn (g .word) .output) in

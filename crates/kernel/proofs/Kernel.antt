@@ -1,5 +1,5 @@
 -- The ledger's laws hold of document 01's kernel, so demand 3 holds of the definition over it. Idea: what `some` hands over is what was made, and no entry of it is NaN; the rest is Fit.
-use mathlib.Core.Path.{_≡_, refl, sym, subst, _∙_}
+use mathlib.Core.Path.{_≡_, refl, subst, _∙_}
 use mathlib.Core.Bool.{Bool, true, false}
 use mathlib.Core.List.{List, map}
 use mathlib.Core.Option.{some}
@@ -27,7 +27,7 @@ use Rattle.ledger.specs.Claim.{Demand3}
 use Rattle.ledger.proofs.Lists.{none≢some, some-inj}
 use Rattle.ledger.proofs.Theorem.{demand3}
 use Rattle.kernel.specs.Fits.{fits}
-use Rattle.kernel.specs.De.{codeGen, made, memberOf, unlessNan, firstsOf, extraOf, nextsOf, de}
+use Rattle.kernel.specs.De.{codeGen, memberOf, unlessNan, firstsOf, extraOf, nextsOf, de}
 use Rattle.kernel.proofs.Fit as F
 use Rattle.kernel.proofs.Fit.{Passes}
 

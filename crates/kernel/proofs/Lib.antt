@@ -1,3 +1,5 @@
+pub mod Examples
 pub mod Within
 pub mod Fit
+pub mod Random
 pub mod Kernel

@@ -1,32 +1,23 @@
-use Rattle.candidates.proofs.Passed.{space-dims, space-few}
-use Rattle.assignment.proofs.Laws.{known-is, extra-is}
+-- `assign_candidate` meets its contract: by whether the trial has a candidate. Assumes nothing.
 use native.Mathlib.Omega.{arith}
 use borrow.Author.Needs.{needs}
+use Rattle.candidates.proofs.Passed.{space-dims, space-few}
+use Rattle.assignment.proofs.Laws.{known-is, extra-is}
 use Rattle.assignment.proofs.assign_candidate.Statement.{statement}
 use Rattle.assignment.proofs.assign_candidate.Tie as tie
-use Rattle.assignment.proofs.assign_candidate.Reads as reads
-use Rattle.assignment.proofs.assign_candidate.Lts as lts
-use Rattle.candidates.proofs.has_nan.Reads as has-nan-reads
-use Rattle.candidates.proofs.random_candidate.Reads as random-candidate-reads
-use Rattle.candidates.proofs.search_space.Reads as search-space-reads
 
--- src/lib.rt:97:9
 returns : tie.Need-returns
 returns c = known-is _ _ _ _ (c .if1 .taken)
 
--- src/lib.rt:103:9
 search-space-requires : tie.Need-search-space-requires
 search-space-requires c κs = search needs
 
--- src/lib.rt:104:9
 random-candidate-requires : tie.Need-random-candidate-requires
 random-candidate-requires c κs = (space-few (c .before .before .args .dims) (c .before .before .args .n-dims) _ (search needs) (c .search-space .ensures), space-dims (c .before .before .args .dims) (c .before .before .args .n-dims) _ (search needs) (c .search-space .ensures), omega arith)
 
--- src/lib.rt:107:9
 has-nan-requires : tie.Need-has-nan-requires
 has-nan-requires c κs = search needs
 
--- src/lib.rt:86:1
 returns-2 : tie.Need-returns-2
 returns-2 c = extra-is _ _ _ _ _ _ _ (c .before .before .before .before .before .if1 .left) (c .before .before .before .before .search-space .ensures) (c .before .before .before .random-candidate .ensures) (c .has-nan .ensures)
 

@@ -1,38 +1,28 @@
+-- `population_size` meets its contract: by cases on the user's size. Assumes nothing.
 use mathlib.Core.Path.{sym, ap, _∙_}
-use Rattle.selection.specs.Size.{sizeOf}
-use native.Mathlib.Omega.{arith}
 use borrow.Author.Needs.{needs}
+use Rattle.selection.specs.Size.{sizeOf}
 use Rattle.assignment.proofs.discovery.population_size.Statement.{statement}
 use Rattle.assignment.proofs.discovery.population_size.Tie as tie
-use Rattle.assignment.proofs.discovery.population_size.Reads as reads
-use Rattle.assignment.proofs.discovery.population_size.Lts as lts
-use Rattle.assignment.proofs.places.larger.Reads as larger-reads
 
--- src/discovery.rt:74:60
 enum-told : tie.Need-enum-told
 enum-told c = search needs
 
--- src/discovery.rt:74:60
 mul-larger : tie.Need-mul-larger
 mul-larger c = search needs
 
--- src/discovery.rt:74:34
 larger-requires : tie.Need-larger-requires
 larger-requires c κs = search needs
 
--- src/discovery.rt:75:28
 enum-known-user : tie.Need-enum-known-user
 enum-known-user c = search needs
 
--- src/discovery.rt:75:37
 larger-requires-2 : tie.Need-larger-requires-2
 larger-requires-2 c κs = search needs
 
--- src/discovery.rt:69:1
 returns : tie.Need-returns
 returns c = c .larger .ensures ∙ sym (ap (λ u. sizeOf u (c .before .before .before .args .n-continuous)) (c .before .enum-told .given .1))
 
--- src/discovery.rt:69:1
 returns-2 : tie.Need-returns-2
 returns-2 c = c .larger2 .ensures ∙ sym (ap (λ u. sizeOf u (c .before .before .before .before .args .n-continuous)) (c .before .before .user .given .1))
 

@@ -1,14 +1,13 @@
-use mathlib.Core.Path.{refl, ap, _∙_}
+-- `trial_numbers` meets its contract: the house form of a loop that fills (`Fill`), one number a turn. Assumes nothing.
 use Prim.Native.Nat.{_≤_, _-_}
+use native.Mathlib.Omega.{arith}
+use mathlib.Core.Path.{refl, ap, _∙_}
+use borrow.Author.Needs.{needs}
 use Rattle.rng_util.specs.Many.{padTo}
 use Rattle.candidates.proofs.Fill.{Fill, fill-first, fill-again, fill-last}
 use Rattle.assignment.proofs.PlaceLaws.{numberAt, numbers-are}
-use borrow.Author.Needs.{needs}
-use native.Mathlib.Omega.{arith}
 use Rattle.assignment.proofs.places.trial_numbers.Statement.{statement}
 use Rattle.assignment.proofs.places.trial_numbers.Tie as tie
-use Rattle.assignment.proofs.places.trial_numbers.Reads as reads
-use Rattle.assignment.proofs.places.trial_numbers.Lts as lts
 
 abbrev Inv-loop : tie.InvT-loop
 Inv-loop n trials ns₀ i₀ ns i = (i ≤ n) × Fill 224 0 (numberAt trials) n ns i
@@ -16,39 +15,30 @@ Inv-loop n trials ns₀ i₀ ns i = (i ≤ n) × Fill 224 0 (numberAt trials) n 
 abbrev μ-loop : tie.MeasureT-loop
 μ-loop n trials ns₀ i₀ ns i = n - i
 
--- src/places.rt:17:5
 loop-holds : tie.Need-loop-holds Inv-loop μ-loop
 loop-holds c = (omega arith, fill-first _ _ _ _)
 
--- src/places.rt:18:17
 mul-ns : tie.Need-mul-ns Inv-loop μ-loop
 mul-ns c = omega arith
 
--- src/places.rt:18:17
 element-copy-out-ns : tie.Need-element-copy-out-ns Inv-loop μ-loop
 element-copy-out-ns c = omega arith
 
--- src/places.rt:18:9
 mul-ns-2 : tie.Need-mul-ns-2 Inv-loop μ-loop
 mul-ns-2 c = omega arith
 
--- src/places.rt:18:9
 array-write-ns : tie.Need-array-write-ns Inv-loop μ-loop
 array-write-ns c = omega arith
 
--- src/places.rt:19:9
 add-i : tie.Need-add-i Inv-loop μ-loop
 add-i c = omega arith
 
--- src/places.rt:17:5
 loop-less : tie.Need-loop-less Inv-loop μ-loop
 loop-less c = omega arith
 
--- src/places.rt:17:5
 loop-again : tie.Need-loop-again Inv-loop μ-loop
 loop-again c = (omega arith, fill-again 224 0 (numberAt (c .before .before .args .t1)) _ _ _ _ (omega arith) (omega arith) refl (c .before .loop .inv .1))
 
--- src/places.rt:11:1
 returns : tie.Need-returns Inv-loop μ-loop
 returns c = fill-last 224 0 (numberAt (c .before .before .args .t1)) _ _ _ (omega arith) (c .before .loop .inv .1) ∙ ap (padTo 224 0) (numbers-are (c .before .before .args .t1) (c .before .before .args .n) (search needs))
 
