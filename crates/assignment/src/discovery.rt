@@ -3,7 +3,6 @@ ghost use mathlib.Core.Path.{_≡_};
 ghost use Prim.Native.Nat.{_≤_, _<_};
 ghost use lib.ListN.{take};
 ghost use Rattle.distribution.specs.Validate.{verdictOf};
-ghost use Rattle.selection.specs.Size.{sizeOf};
 ghost use Rattle.ledger.specs.Sample.{discovers};
 ghost use Rattle.state.specs.View.{firstIn};
 ghost use Rattle.assignment.specs.Raw.{rawDiscovery, Complete, rawBegin};
@@ -11,7 +10,6 @@ use crate::Accepted;
 use distribution::DimensionInfo;
 use distribution::Distribution;
 use distribution::Verdict;
-use evolution::PopulationSize;
 use rng_util::Gen;
 use state::FirstTrial;
 use state::State;
@@ -65,17 +63,6 @@ pub fn sample_discovery(state: State, d: Distribution, number: u64) -> Accepted
     }
 }
 
-// The user's size, raised to 4; unset, the larger of 15 and 10 × n.
-fn population_size(user: PopulationSize, n_continuous: usize) -> usize
-    requires { ⌜ «n_continuous» ≤ 16 ⌝ }
-    ensures { λ r. ⌜ r ≡ sizeOf user «n_continuous» ⌝ }
-{
-    match user {
-        PopulationSize::Unset => crate::places::larger(15, 10 * n_continuous),
-        PopulationSize::Of(size) => crate::places::larger(size as usize, 4),
-    }
-}
-
 // A call with another trial number ends discovery: N is fixed, and N random candidates are made.
 pub fn finalize_discovery(state: State) -> Begun
     requires { ⌜ Complete state ⌝ }
@@ -89,7 +76,7 @@ pub fn finalize_discovery(state: State) -> Begun
     let setup = state.setup;
     let space = candidates::search_space(dims, state.n_dims);
     let user = setup.population_size;
-    let n = population_size(user, space.n);
+    let n = selection::population_size(user, space.n);
     let drawn = candidates::generate_initial_population(space, n, from);
     let candidates = drawn.candidates;
     if candidates::any_bad(candidates, n) {

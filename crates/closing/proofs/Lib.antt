@@ -1,3 +1,4 @@
 pub mod When
+pub mod Made
 pub mod Links
 pub mod Refine

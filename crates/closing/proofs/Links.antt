@@ -1,8 +1,8 @@
 -- The code's selection is the ledger's, slot by slot, where the ledger's parents are the code's members. A result list decides how many candidates count.
-use mathlib.Core.Path.{_≡_, refl, sym, ap, _∙_}
+use mathlib.Core.Path.{_≡_, refl, sym, ap, subst, _∙_}
 use mathlib.Core.Logic.{_≢_}
 use mathlib.Core.Bool.{Bool, true, false, _||_, cond}
-use mathlib.Core.List.{List, [], _∷_, map, List·Memᴰ·head, List·Memᴰ·tail}
+use mathlib.Core.List.{List, [], _∷_, map, List·Memᴰ·head, List·Memᴰ·tail, List·Memᴰ·not-nil}
 use Prim.Native.Nat.{ℕ, zero, suc, _≤_}
 use native.Mathlib.Nat.{not-suc-le-zero, le-of-suc-le-suc}
 use lib.Ieee.{Float, nan, le}
@@ -52,9 +52,9 @@ link-values (p ∷ ps) = ap (λ (l : List Float). p .value ∷ l) (link-values p
 
 -- values that are not NaN
 numbers-of : (ps : List (Parent Candidate)) → All (λ p. p .value ≢ nan) ps → Numbers (Plain.values de ps)
-unfolding Numbers
-numbers-of [] h = tt
-numbers-of (p ∷ ps) h = (h p (List·Memᴰ·head refl), numbers-of ps (λ q k. h q (List·Memᴰ·tail k)))
+numbers-of [] h v k = absurd (List·Memᴰ·not-nil k)
+numbers-of (p ∷ ps) h v (List·Memᴰ·head e) = subst (λ (x : Float). x ≢ nan) (sym e) (h p (List·Memᴰ·head refl))
+numbers-of (p ∷ ps) h v (List·Memᴰ·tail k) = numbers-of ps (λ q j. h q (List·Memᴰ·tail j)) v k
 
 -- the running best is the first least
 pub link-best : (ps : List (Parent Candidate)) → All (λ p. p .value ≢ nan) ps → bestSlot (values (map memberOf ps)) ≡ L.bestOf (Plain.values de ps)

@@ -1,11 +1,15 @@
 // Step 6: a generation closes (sampler/de.rs, `maybe_update_generation`).
 ghost use mathlib.Core.Path.{_≡_};
 ghost use Prim.Native.Nat.{_≤_};
-ghost use lib.ListN.{take};
+ghost use lib.ListN.{length, take};
 ghost use Rattle.ledger.specs.Closing.{up};
-ghost use Rattle.closing.specs.Raw.{closesNow, idleAfter};
+ghost use Rattle.selection.specs.Records.{membersRec};
+ghost use Rattle.closing.specs.Raw.{closesNow, parentsAfter, idleAfter, Closable, rawClose};
+use candidates::Candidate;
+use evolution::Member;
 use rng_util::Gen;
 use state::State;
+use state::TrialProgress;
 
 // After a closing: the state, and the generator after the draws. Where `ok` is false, refusal 11, both are as they came.
 pub struct Closed {
@@ -53,4 +57,74 @@ fn new_idle(closed: u32, idle: u32, replaced: bool) -> u32
         return 0;
     }
     up_one(idle)
+}
+
+// What each slot holds: the first closing stores candidates and results, a later one selects.
+fn new_parents(
+    closed: u32,
+    parents: [Member; 160],
+    candidates: [Candidate; 224],
+    results: [f64; 160],
+    n: usize,
+) -> [Member; 160]
+    requires { ⌜ n ≤ 160 ⌝ }
+    ensures { λ r. ⌜ r ≡ membersRec (parentsAfter closed (take n parents) (take n candidates) (take n results)) ⌝ }
+    ensures { λ r. ⌜ length (parentsAfter closed (take n parents) (take n candidates) (take n results)) ≡ n ⌝ }
+{
+    if closed == 0 {
+        return selection::initialize_population(candidates, results, n);
+    }
+    selection::perform_selection(parents, candidates, results, n)
+}
+
+// The generation closes with these results: result i counts for slot i.
+pub fn close(state: State, results: [f64; 160]) -> Closed
+    requires { ⌜ Closable state ⌝ }
+    ensures { λ r. ⌜ r ≡ rawClose state results ⌝ }
+{
+    let n = state.n;
+    let olds = state.parents;
+    let tried = state.candidates;
+    let parents = new_parents(state.closed, olds, tried, results, n);
+    let replaced = selection::any_replaced(olds, results, n);
+    let idle = new_idle(state.closed, state.idle, replaced);
+    let best = selection::best_slot(parents, n);
+    let dims = state.dims;
+    let space = candidates::search_space(dims, state.n_dims);
+    let from = Gen {
+        word: state.word,
+        draws: 0,
+    };
+    let setup = state.setup;
+    let next = evolution::next_candidates(setup, parents, n, best, space, from);
+    let candidates = next.candidates;
+    if candidates::any_bad(candidates, n) {
+        return Closed {
+            ok: false,
+            state,
+            after: from,
+        };
+    }
+    let after = next.after;
+    let closed = up_one(state.closed);
+    let blank = TrialProgress {
+        number: 0,
+        next_dim: 0,
+    };
+    let trials = [blank; 224];
+    let s = State {
+        candidates,
+        parents,
+        n_trials: 0,
+        trials,
+        best,
+        closed,
+        idle,
+        ..state
+    };
+    Closed {
+        ok: true,
+        state: s,
+        after,
+    }
 }

@@ -1,3 +1,4 @@
 pub mod On
 pub mod Asking
 pub mod Gather
+pub mod Whole

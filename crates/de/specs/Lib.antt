@@ -4,3 +4,4 @@ pub mod Sample
 pub mod Look
 pub mod Gathered
 pub mod Ask
+pub mod Whole

@@ -1,7 +1,7 @@
 -- What the ledger's laws do not see of the kernel, on small inputs: which entry or choice a setting is decoded from, what does not fit, which dimensions N counts, the draws, refusal 11.
 -- All by computation.
 use mathlib.Core.Path.{_≡_, refl}
-use mathlib.Core.Bool.{Bool, true, false}
+use mathlib.Core.Bool.{true, false}
 use mathlib.Core.List.{List, [], _∷_, map}
 use mathlib.Core.Option.{Option, none, some}
 use Prim.Native.Nat.{ℕ, suc, _+_}
@@ -17,7 +17,6 @@ use Rattle.distribution.specs.declared.FloatStep.{FloatStep}
 use Rattle.distribution.specs.declared.FloatStep.the-variants as F
 use Rattle.distribution.specs.declared.IntStep.{IntStep}
 use Rattle.distribution.specs.declared.IntStep.the-variants as I
-use Rattle.distribution.specs.declared.ParamValue.{ParamValue}
 use Rattle.distribution.specs.declared.ParamValue.the-variants.{Float as FloatV, Int as IntV, Categorical}
 use Rattle.distribution.proofs.Examples.{dec}
 use Rattle.rounding.specs.Clamp.{clampOf}

@@ -47,7 +47,7 @@ use Rattle.kernel.proofs.Within.{Within, within-finite, wider, between,
 -- ---- what holds of each of a list
 
 module _ {A : Type 0} (P : A → Type 0) where
-  all-cons : (x : A) (xs : List A) → P x → All P xs → All P (x ∷ xs)
+  pub all-cons : (x : A) (xs : List A) → P x → All P xs → All P (x ∷ xs)
   all-cons x xs p h a (List·Memᴰ·head e) = subst P (sym e) p
   all-cons x xs p h a (List·Memᴰ·tail t) = h a t
 

@@ -3,3 +3,4 @@ pub mod Within
 pub mod Fit
 pub mod Random
 pub mod Kernel
+pub mod Link

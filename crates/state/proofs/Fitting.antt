@@ -2,23 +2,28 @@
 use mathlib.Core.Path.{_≡_, refl, sym, ap, ap₂, subst, _∙_}
 use mathlib.Core.Bool.{Bool, true, false, _&&_, cond}
 use mathlib.Core.List.{List, [], _∷_, _++_, map}
-use Prim.Native.Nat.{ℕ, zero, suc, _+_, _-_, _≤_}
+use Prim.Native.Nat.{ℕ, zero, suc, _+_, _-_, _≤_, _<_}
 use native.Mathlib.Omega.{arith}
-use native.Mathlib.Nat.{not-suc-le-zero, le-of-suc-le-suc}
+use native.Mathlib.Nat.{not-suc-le-zero, le-of-suc-le-suc, le-refl}
 use borrow.Author.Tests.{lt-ltb, le-ltb, eq-eqb, ne-eqb}
 use lib.Dec.{eqb, ltb}
 use lib.Ieee.{Float}
-use lib.ListN.{length, replicate, length-map}
-use Rattle.rng_util.specs.Many.{padTo}
+use lib.ListN.{length, getD, take, replicate, length-map}
+use Rattle.rng_util.specs.Many.{padTo, listed}
 use Rattle.distribution.specs.Validate.{isFinite, verdictOf, refusalOf, judged}
 use Rattle.distribution.specs.declared.Distribution.{Distribution}
 use Rattle.distribution.specs.declared.Verdict.{Verdict}
 use Rattle.distribution.specs.declared.Verdict.the-variants.{Valid, Refused}
 use Rattle.state.specs.Setup.{isValid}
 use Rattle.distribution.specs.declared.DimensionInfo.{DimensionInfo}
-use Rattle.candidates.specs.Space.{continuousDims, continuousCount}
+use Rattle.candidates.specs.Space.{continuousDims, continuousCount, FewChoices}
+use Rattle.distribution.specs.Dims.{choicesOf, noDim}
 use Rattle.candidates.specs.declared.Candidate.{Candidate}
-use Rattle.candidates.proofs.Passed.{few-continuous}
+use Rattle.candidates.specs.Candidate.{continuousPlace}
+use Rattle.distribution.specs.declared.Ci.{Ci}
+use lib.Seq.{take-take}
+use Rattle.candidates.proofs.Lists.{listed-map}
+use Rattle.candidates.proofs.Passed.{few-continuous, count-fits}
 use Rattle.ledger.specs.Words.{isNone, all}
 use Rattle.kernel.specs.Fits.{isZero, entriesFit, choiceLimit, choicesFit, fits}
 use Rattle.evolution.specs.declared.Member.{Member}
@@ -81,3 +86,18 @@ passes-is d v r e f = f ∙ ap isValid e ∙ go (verdictOf d)
     go : (w : Verdict) → isValid w ≡ isNone (refusalOf w)
     go Valid = refl
     go (Refused x) = refl
+
+-- ---- the limits, read out of the dimensions
+
+abbrev pub limitAt : List DimensionInfo → ℕ → ℕ
+limitAt dims k = choiceLimit (getD dims k noDim)
+
+pub limits-are : (dims : List DimensionInfo) (n : ℕ) → n ≤ length dims → padTo 16 1 (listed (limitAt dims) n 0) ≡ padTo 16 1 (map choiceLimit (take n dims))
+limits-are dims n h = ap (padTo 16 1) (listed-map choiceLimit dims noDim n h)
+
+pub limit-few : (dims : List DimensionInfo) (n k : ℕ) → FewChoices (take n dims) → n ≤ length dims → k < n → choicesOf (getD dims k noDim) ≤ 65535
+limit-few dims n k few len h = let p = count-fits dims n k (choicesOf (getD dims k noDim)) few len h refl in omega arith
+
+pub limits-of : (dims : List DimensionInfo) (n : ℕ) (ci : Ci) (ls : List ℕ) → ci ≡ continuousPlace (take n dims) (record { 0 = n }) → ls ≡ padTo 16 1 (map choiceLimit (take n dims))
+    → record { n = ci .0; choices = ls } ≡ limitsOf (take n dims)
+limits-of dims n ci ls e f = rw (e, f, take-take n n dims (le-refl n))

@@ -37,3 +37,15 @@ pub every-at : (bs : List Bool) → every bs ≡ true → (i : ℕ) (b : Bool) �
 every-at [] t i b e = absurd (none≢some e)
 every-at (a ∷ bs) t zero b e = sym (some-inj e) ∙ true-and a (every bs) t .0
 every-at (a ∷ bs) t (suc i) b e = every-at bs (true-and a (every bs) t .1) i b e
+
+-- five tests, as the code joins them
+pub five : (a b c d e : Bool) → (a && b && c && d && e) ≡ true → (a ≡ true) × (b ≡ true) × (c ≡ true) × (d ≡ true) × (e ≡ true)
+five true true true true true h = (refl, refl, refl, refl, refl)
+five true true true true false h = absurd (true≢false (sym h))
+five true true true false e h = absurd (true≢false (sym h))
+five true true false d e h = absurd (true≢false (sym h))
+five true false c d e h = absurd (true≢false (sym h))
+five false b c d e h = absurd (true≢false (sym h))
+
+pub all-five : {a b c d e : Bool} → a ≡ true → b ≡ true → c ≡ true → d ≡ true → e ≡ true → (a && b && c && d && e) ≡ true
+all-five p q r s t = rw (p, q, r, s, t)

@@ -3,4 +3,8 @@ pub mod Flags
 pub mod Floats
 pub mod Loops
 pub mod Measured
+pub mod Numbers
+pub mod Parts
 pub mod Setups
+pub mod Sizes
+pub mod Whole

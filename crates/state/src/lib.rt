@@ -4,8 +4,10 @@ use distribution::DimensionInfo;
 use evolution::Member;
 use evolution::Setup;
 
+pub mod lists;
 pub mod places;
 pub mod setup;
+pub mod sound;
 
 // An open trial: its number, and the dimension that its next call gives. The i-th one has candidate i.
 pub struct TrialProgress {

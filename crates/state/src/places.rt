@@ -19,6 +19,8 @@ use candidates::continuous_place;
 use distribution::DimIdx;
 use distribution::DimensionInfo;
 use distribution::Distribution;
+use distribution::choices_of;
+use distribution::is_continuous;
 use distribution::validate::is_finite;
 use distribution::validate::validate;
 use evolution::Member;
@@ -207,4 +209,41 @@ pub fn trials_fit(trials: [TrialProgress; 224], n: usize, n_dims: usize) -> bool
         }
     }
     true
+}
+
+// What a dimension's choice stays below: 1 where it is continuous, since 0 stands there.
+fn choice_limit(d: DimensionInfo) -> u16
+    requires { ⌜ choicesOf d ≤ 65535 ⌝ }
+    ensures { λ r. ⌜ r ≡ choiceLimit d ⌝ }
+{
+    let k = d.distribution;
+    if is_continuous(k) {
+        return 1;
+    }
+    let count = choices_of(k);
+    count as u16
+}
+
+fn choice_limits(dims: [DimensionInfo; 16], n_dims: usize) -> [u16; 16]
+    requires { ⌜ («n_dims» ≤ 16) × FewChoices (take «n_dims» dims) ⌝ }
+    ensures { λ r. ⌜ r ≡ padTo 16 1 (map choiceLimit (take «n_dims» dims)) ⌝ }
+{
+    let mut limits = [1u16; 16];
+    let mut k: usize = 0;
+    while k < n_dims {
+        let d = dims[k];
+        limits[k] = choice_limit(d);
+        k += 1;
+    }
+    limits
+}
+
+// The limits of n_dims dimensions that pass 7.
+pub fn limits_of(dims: [DimensionInfo; 16], n_dims: usize) -> Limits
+    requires { ⌜ («n_dims» ≤ 16) × FewChoices (take «n_dims» dims) ⌝ }
+    ensures { λ r. ⌜ r ≡ limitsOf (take «n_dims» dims) ⌝ }
+{
+    let ci = continuous_place(dims, n_dims, DimIdx(n_dims));
+    let choices = choice_limits(dims, n_dims);
+    Limits { n: ci.0, choices }
 }
