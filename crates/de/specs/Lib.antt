@@ -5,3 +5,4 @@ pub mod Look
 pub mod Gathered
 pub mod Ask
 pub mod Whole
+pub mod Program
