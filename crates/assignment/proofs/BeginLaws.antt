@@ -20,7 +20,7 @@ use Rattle.candidates.specs.declared.Space.{Space}
 use Rattle.selection.specs.Size.{sizeOf}
 use Rattle.state.specs.declared.FirstTrial.the-variants.{Named}
 use Rattle.state.specs.declared.State.{State}
-use Rattle.assignment.specs.Raw.{dimsOf, startOf, sizeIn, rawDiscovery, begunWith, rawBegin}
+use Rattle.assignment.specs.Raw.{dimsOf, startOf, slotCount, rawDiscovery, begunWith, rawBegin}
 use Rattle.assignment.proofs.Laws.{cond-true, cond-false}
 
 pub discovery-is : (s : State) (d : Distribution) (n : ℕ) (m : RandomSetting) → m ≡ randomRec (randomSetting d (startOf s))
@@ -53,11 +53,11 @@ unfolding randomCandidates
 all-made space N g = take-at (randomCandidates space N g .out) _ N (many-length (candidateAt space) N 0 g)
 
 module _ (s : State) (space : Space) (N : ℕ) (p : space ≡ spaceOf (dimsOf s)) (q : N ≡ sizeOf (s .setup .«population_size») (space .n)) where
-  size-is : N ≡ sizeIn s
+  size-is : N ≡ slotCount s
   unfolding spaceOf
   size-is = q ∙ ap (λ (x : Space). sizeOf (s .setup .«population_size») (x .n)) p
 
-  pub size-few : sizeIn s ≤ 160 → N ≤ 160
+  pub size-few : slotCount s ≤ 160 → N ≤ 160
   size-few h = rw size-is h
 
 -- N random candidates were drawn, and one of them is NaN or none is

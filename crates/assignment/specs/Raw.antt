@@ -71,10 +71,11 @@ decodedBy d at ci y = cond (continuous d) (fromInternal (entryOf y ci) d) (Categ
 unfoldable pub settingFor : List DimensionInfo → Distribution → ℕ → Candidate → Gen → Made ParamValue
 settingFor ds lent k y g = cond (ltb k (length ds)) (made (decodeOf ds k y) g) (randomSetting lent g)
 
+-- the same as the code's struct
 abbrev pub settingRec : Made ParamValue → DrawnSetting
 settingRec m = record { setting = m .out; after = m .after }
 
--- a new candidate; 11: "a new candidate's entry is NaN"
+-- a new candidate as the code's struct; 11: "a new candidate's entry is NaN"
 abbrev pub extraRec : Made Candidate → Assigned
 extraRec m = record { ok = not (anyNan (m .out .x)); candidate = m .out; after = m .after }
 
@@ -86,7 +87,7 @@ candidateFor known own ds g = cond known (record { ok = true; candidate = own; a
 abbrev pub missing : State → Accepted
 missing s = record { ok = false; setting = Categorical 0; draws = 0; state = s }
 
--- the trial n at a place has candidate y, and its next place is k
+-- the trial n at a place has candidate y, its next place is k, and the generator's word is w
 abbrev pub withTrial : State → ℕ → ℕ → Candidate → ℕ → ℕ → State
 withTrial s n place y k w =
     record {
@@ -115,13 +116,16 @@ abbrev pub givenAt : State → ℕ → ℕ → Candidate → ℕ → Made ParamV
 givenAt s n place y k m =
     record { ok = true; setting = m .out; draws = m .after .draws; state = withTrial s n place y (min (k + 1) (s .«n_dims»)) (m .after .word) }
 
+-- by the trial's candidate, or none
 unfoldable pub servedWith : State → Distribution → ℕ → ℕ → Assigned → Accepted
 servedWith s lent n place a =
     cond (a .ok) (givenAt s n place (a .candidate) (nextAt s place) (settingFor (dimsOf s) lent (nextAt s place) (a .candidate) (a .after))) (missing s)
 
+-- the candidate at the place if it is in use, else an extra's
 abbrev pub assignedAt : State → ℕ → Gen → Assigned
 assignedAt s place g = candidateFor (ltb place (candidateCount s)) (getD (s .candidates) place noCandidate) (dimsOf s) g
 
+-- the whole call
 unfoldable pub rawActive : State → Distribution → ℕ → Gen → Accepted
 rawActive s lent n g = servedWith s lent n (placeOf s n) (assignedAt s (placeOf s n) g)
 
@@ -156,6 +160,7 @@ withDim s d n w =
       idle = s .idle;
     }
 
+-- the call's answer is that random setting
 abbrev pub discoveredBy : State → Distribution → ℕ → Made ParamValue → Accepted
 discoveredBy s d n m = record { ok = true; setting = m .out; draws = m .after .draws; state = withDim s d n (m .after .word) }
 
@@ -182,20 +187,22 @@ withSize s N cs =
       idle = s .idle;
     }
 
+-- with N slots, by the candidates
 unfoldable pub begunWith : State → ℕ → Made (List Candidate) → Begun
 begunWith s N m =
     cond (anyBad (m .out))
     (record { ok = false; state = s; after = startOf s })
     (record { ok = true; state = withSize s N (m .out); after = m .after })
 
-abbrev pub sizeIn : State → ℕ
-sizeIn s = populationSize (s .setup) (dimsOf s)
+-- N, by the size rule
+abbrev pub slotCount : State → ℕ
+slotCount s = populationSize (s .setup) (dimsOf s)
 
 unfoldable pub rawBegin : State → Begun
-rawBegin s = begunWith s (sizeIn s) (randomCandidates (spaceOf (dimsOf s)) (sizeIn s) (startOf s))
+rawBegin s = begunWith s (slotCount s) (randomCandidates (spaceOf (dimsOf s)) (slotCount s) (startOf s))
 
 -- what the end of discovery finds
 pub record Complete (s : State) : Type 0 where
   pub few-dims : s .«n_dims» ≤ 16
   pub few-choices : FewChoices (dimsOf s)
-  pub few-slots : sizeIn s ≤ 160
+  pub few-slots : slotCount s ≤ 160

@@ -1,7 +1,6 @@
 // Discovery and its end (sampler/de.rs: `sample_discovery`, `finalize_discovery`).
 ghost use mathlib.Core.Path.{_≡_};
-ghost use Prim.Native.Nat.{_≤_, _<_};
-ghost use lib.ListN.{take};
+ghost use Prim.Native.Nat.{_<_};
 ghost use Rattle.distribution.specs.Validate.{verdictOf};
 ghost use Rattle.ledger.specs.Sample.{discovers};
 ghost use Rattle.state.specs.View.{firstIn};

@@ -1,4 +1,5 @@
 pub mod When
 pub mod Made
-pub mod Links
+pub mod Extras
 pub mod Refine
+pub mod Counted

@@ -1,13 +1,13 @@
 -- A closing on a state that is laid out is the ledger's closing, laid out. Field by field: the first N places of each array are the plain state's lists.
+-- what the ledger's closing gives, laid out: `none` is refusal 11, which leaves the state and the generator as they came
 use mathlib.Core.Path.{_≡_, refl, sym, ap, _∙_}
 use mathlib.Core.Logic.{_≢_}
 use mathlib.Core.Bool.{Bool, true, false, cond}
-use mathlib.Core.List.{List, [], _∷_, map}
+use mathlib.Core.List.{List, map}
 use mathlib.Core.Option.{Option, none, some}
-use Prim.Native.Nat.{ℕ, zero, suc, _-_, _≤_, max}
+use Prim.Native.Nat.{ℕ, zero, suc, _-_, _≤_}
 use native.Mathlib.Omega.{arith}
 use borrow.Author.Tests.{ne-eqb}
-use lib.Dec.{eqb}
 use lib.Ieee.{Float, nan}
 use lib.ListN.{length, take, replicate, length-map}
 use lib.Seq.{take-at, take-append-le, length-take-le}
@@ -29,15 +29,16 @@ use Rattle.ledger.specs.Closing as L
 use Rattle.ledger.specs.Soundness.{Running}
 use Rattle.ledger.specs.Words.{_>>=_, All}
 use Rattle.ledger.proofs.Slots.{store-all, select-all}
-use Rattle.kernel.specs.De.{de, codeGen, made, memberOf, unlessNan, nextsOf}
-use Rattle.state.specs.Blank.{blankDim, blankTrial}
-use Rattle.state.specs.View.{laid, sizeNumber, hasSize, firstOf}
+use Rattle.kernel.specs.De.{de, codeGen, memberOf, unlessNan, nextsOf}
+use Rattle.kernel.proofs.Link.{link-store, link-select, link-replaced, link-best}
+use Rattle.state.specs.Blank.{blankDim}
+use Rattle.state.specs.View.{laid, sizeNumber}
 use Rattle.state.specs.declared.State.{State}
-use Rattle.closing.specs.Raw.{parentsAfter, idleAfter, startOf, rawParents, rawNexts, rawClosed, notClosed, closedWith, rawClose}
+use Rattle.closing.specs.Raw.{parentsAfter, idleAfter, settled, startOf, rawParents, rawSlots, rawNexts, reopened, closedWith, rawClose}
 use Rattle.closing.specs.declared.Closed.{Closed}
-use Rattle.closing.proofs.Links.{link-store, link-select, link-replaced, link-best, stored-take, selected-take}
+use Rattle.closing.specs.declared.Slots.{Slots}
+use Rattle.closing.proofs.Extras.{stored-take, selected-take}
 
--- what the ledger's closing gives, laid out: `none` is refusal 11, which leaves the state and the generator as they came
 abbrev pub laidClosed : Setup → Plain.State de → Option (K.Made ℕ (Plain.State de)) → Closed
 laidClosed S m none = record { ok = false; state = laid S m; after = codeGen (Plain.startGen de m) }
 laidClosed S m (some c) = record { ok = true; state = laid S (c .out); after = codeGen (c .gen) }
@@ -121,36 +122,23 @@ module _ (S : Setup) (m : Plain.State de) (N : ℕ) (sized : m .size ≡ some N)
   unfolding laid
   nexts-are = λ i. nextCandidates S (map memberOf news) (best-is i) (spaceOf (all-dims i)) (codeGen (Plain.startGen de m))
 
-  closed-is : (ys : List Candidate) → rawClosed (laid S m) rs (map memberOf news) ys ≡ laid S (L.reopen de m slots ys)
+  slots-are : rawSlots (laid S m) rs ≡ record { parents = padTo 160 blankMember (map memberOf news); best = slots .best; closed = slots .closed; idle = slots .idle }
+  unfolding laid settled
+  slots-are = λ i. record { parents = padTo 160 blankMember (parents-are i); best = (ap (λ (l : List Member). bestSlot (values l)) parents-are ∙ best-is) i; closed = L.up (m .slots .closed); idle = idle-is i }
+
+  reopened-is : (ys : List Candidate) → reopened (laid S m) (rawSlots (laid S m) rs) ys ≡ laid S (L.reopen de m slots ys)
   unfolding laid
-  closed-is ys = λ i.
-      record {
-        setup = S;
-        first = firstOf (m .first);
-        discovered = hasSize (m .size);
-        n = sizeNumber (m .size);
-        «n_dims» = length (m .dims);
-        dims = padTo 16 blankDim (m .dims);
-        candidates = padTo 224 blankCandidate ys;
-        parents = padTo 160 blankMember (map memberOf news);
-        «n_trials» = 0;
-        trials = replicate 224 blankTrial;
-        best = best-is i;
-        word = m .word;
-        closed = L.up (m .slots .closed);
-        idle = idle-is i;
-      }
+  reopened-is ys = ap (λ (o : Slots). reopened (laid S m) o ys) slots-are
 
   -- ---- THE CLOSING
 
   pub close-is : rawClose (laid S m) rs ≡ laidClosed S m (L.close de S m (Plain.startGen de m) (some (take N rs)))
   unfolding rawClose L.close nextsOf laid
   close-is =
-      ap (λ (ps : List Member). closedWith (laid S m) rs ps (rawNexts (laid S m) ps)) parents-are
-      ∙ ap (λ (x : Made (List Candidate)). closedWith (laid S m) rs (map memberOf news) x) nexts-are
+      ap (closedWith (laid S m) (rawSlots (laid S m) rs)) (ap (rawNexts (laid S m)) parents-are ∙ nexts-are)
       ∙ go (anyBad (nexts .out))
     where
-      go : (b : Bool) → cond b (notClosed (laid S m)) (record { ok = true; state = rawClosed (laid S m) rs (map memberOf news) (nexts .out); after = nexts .after })
+      go : (b : Bool) → cond b (record { ok = false; state = laid S m; after = startOf (laid S m) }) (record { ok = true; state = reopened (laid S m) (rawSlots (laid S m) rs) (nexts .out); after = nexts .after })
           ≡ laidClosed S m (unlessNan b nexts >>= λ (k : K.Made ℕ (List Candidate)). some (record { out = L.reopen de m slots (k .out); gen = k .gen }))
       go true = refl
-      go false = ap (λ (s : State). record { ok = true; state = s; after = nexts .after }) (closed-is (nexts .out))
+      go false = ap (λ (s : State). record { ok = true; state = s; after = nexts .after }) (reopened-is (nexts .out))

@@ -4,7 +4,7 @@ ghost use Prim.Native.Nat.{_≤_};
 ghost use lib.ListN.{length, take};
 ghost use Rattle.ledger.specs.Closing.{up};
 ghost use Rattle.selection.specs.Records.{membersRec};
-ghost use Rattle.closing.specs.Raw.{closesNow, parentsAfter, idleAfter, Closable, rawClose};
+ghost use Rattle.closing.specs.Raw.{closesNow, parentsAfter, idleAfter, settled, Closable, rawClose};
 use candidates::Candidate;
 use evolution::Member;
 use rng_util::Gen;
@@ -16,6 +16,14 @@ pub struct Closed {
     pub ok: bool,
     pub state: State,
     pub after: Gen,
+}
+
+// What the closings have made.
+pub struct Slots {
+    pub parents: [Member; 160],
+    pub best: usize,
+    pub closed: u32,
+    pub idle: u32,
 }
 
 // Whether a generation closes: at least n trials are assigned, and the history has the first n.
@@ -69,7 +77,6 @@ fn new_parents(
 ) -> [Member; 160]
     requires { ⌜ n ≤ 160 ⌝ }
     ensures { λ r. ⌜ r ≡ membersRec (parentsAfter closed (take n parents) (take n candidates) (take n results)) ⌝ }
-    ensures { λ r. ⌜ length (parentsAfter closed (take n parents) (take n candidates) (take n results)) ≡ n ⌝ }
 {
     if closed == 0 {
         return selection::initialize_population(candidates, results, n);
@@ -77,7 +84,31 @@ fn new_parents(
     selection::perform_selection(parents, candidates, results, n)
 }
 
-// The generation closes with these results: result i counts for slot i.
+// The slots after a generation has closed with these results: result i counts for slot i.
+fn settle(
+    closed: u32,
+    idle: u32,
+    parents: [Member; 160],
+    candidates: [Candidate; 224],
+    results: [f64; 160],
+    n: usize,
+) -> Slots
+    requires { ⌜ n ≤ 160 ⌝ }
+    ensures { λ r. ⌜ r ≡ settled closed idle (take n parents) (take n candidates) (take n results) ⌝ }
+    ensures { λ r. ⌜ length (parentsAfter closed (take n parents) (take n candidates) (take n results)) ≡ n ⌝ }
+{
+    let replaced = selection::any_replaced(parents, results, n);
+    let population = new_parents(closed, parents, candidates, results, n);
+    let best = selection::best_slot(population, n);
+    Slots {
+        parents: population,
+        best,
+        closed: up_one(closed),
+        idle: new_idle(closed, idle, replaced),
+    }
+}
+
+// The generation closes with these results, and the next one begins: new candidates, and no trial yet.
 pub fn close(state: State, results: [f64; 160]) -> Closed
     requires { ⌜ Closable state ⌝ }
     ensures { λ r. ⌜ r ≡ rawClose state results ⌝ }
@@ -85,18 +116,16 @@ pub fn close(state: State, results: [f64; 160]) -> Closed
     let n = state.n;
     let olds = state.parents;
     let tried = state.candidates;
-    let parents = new_parents(state.closed, olds, tried, results, n);
-    let replaced = selection::any_replaced(olds, results, n);
-    let idle = new_idle(state.closed, state.idle, replaced);
-    let best = selection::best_slot(parents, n);
+    let slots = settle(state.closed, state.idle, olds, tried, results, n);
+    let parents = slots.parents;
     let dims = state.dims;
     let space = candidates::search_space(dims, state.n_dims);
+    let setup = state.setup;
     let from = Gen {
         word: state.word,
         draws: 0,
     };
-    let setup = state.setup;
-    let next = evolution::next_candidates(setup, parents, n, best, space, from);
+    let next = evolution::next_candidates(setup, parents, n, slots.best, space, from);
     let candidates = next.candidates;
     if candidates::any_bad(candidates, n) {
         return Closed {
@@ -105,8 +134,6 @@ pub fn close(state: State, results: [f64; 160]) -> Closed
             after: from,
         };
     }
-    let after = next.after;
-    let closed = up_one(state.closed);
     let blank = TrialProgress {
         number: 0,
         next_dim: 0,
@@ -117,11 +144,12 @@ pub fn close(state: State, results: [f64; 160]) -> Closed
         parents,
         n_trials: 0,
         trials,
-        best,
-        closed,
-        idle,
+        best: slots.best,
+        closed: slots.closed,
+        idle: slots.idle,
         ..state
     };
+    let after = next.after;
     Closed {
         ok: true,
         state: s,

@@ -1,6 +1,7 @@
 -- What a scan gathers is what the history has: place by place the last entry of a wanted number, so the counted results are the definition's.
 use Prim.Native.Nat.{ℕ, zero, suc, _≤_, _<_}
 use mathlib.Core.Path.{_≡_, refl, sym, ap, subst, _∙_}
+use mathlib.Core.Logic.{_≢_}
 use mathlib.Core.Bool.{Bool, true, false, _&&_, _||_, cond}
 use mathlib.Core.List.{List, [], _∷_, map}
 use mathlib.Core.Option.{Option, none, some}
@@ -19,7 +20,9 @@ use Rattle.history.specs.declared.CompletedTrial.{CompletedTrial}
 use Rattle.history.specs.declared.Gathered.{Gathered}
 use Rattle.history.proofs.Meaning.{gathered-nan, gathered-last, found-length, values-length}
 use Rattle.evolution.proofs.Flat.{getD-padded}
-use Rattle.ledger.specs.Words.{_>>=_, all}
+use Rattle.ledger.specs.Words.{_>>=_, all, All}
+use Rattle.ledger.proofs.Lists.{none≢some}
+use Rattle.ledger.proofs.Results.{counted-is}
 use Rattle.ledger.specs.Kernel.{Laws}
 use Rattle.ledger.specs.Call.{anyBad}
 use Rattle.ledger.specs.State.{Trial, numbers, State as Plain}
@@ -31,7 +34,8 @@ use Rattle.state.specs.View.{view, sizeIn, trialOf}
 use Rattle.state.specs.declared.State.{State}
 use Rattle.state.specs.declared.TrialProgress.{TrialProgress}
 use Rattle.de.specs.Sample.{sampleOf}
-use Rattle.de.specs.Gathered.{sampledOn, rowFor, closesFrom, isTrue, rowIf, rowIn}
+use Rattle.closing.specs.Raw.{closesNow, isTrue}
+use Rattle.de.specs.Gathered.{sampledOn, rowFor, rowIf, rowIn}
 use Rattle.de.specs.Ask.{wantedCount, numberAt, firstNumbers, numbersRec, leastOf, mostOf, askedOf}
 use Rattle.de.specs.declared.ask.Asked.{Asked}
 use Rattle.de.proofs.On.{sampled-on}
@@ -115,12 +119,12 @@ module _ (L : Laws de) (s : State) (h : List CompletedTrial) (few : s .n ≤ 160
       ∙ same-value (getD (numbersRec ns) i 0) h
       ∙ ap (λ (x : ℕ). scan de h x none) (ap (λ (x : ℕ). getD (numbersRec (firstNumbers (s .trials) x)) i 0) e ∙ asked-number (s .trials) (s .n) (s .«n_trials») i r (omega arith) l))
 
-  row-by : (d : Bool) → s .discovered ≡ d → rowIf (closesFrom d (s .n) (s .«n_trials») (g .found)) (take (s .n) (g .values)) ≡ rowFor (sizeIn d (s .n)) (view s) h
-  unfolding closesFrom counted askedOf
+  row-by : (d : Bool) → s .discovered ≡ d → rowIf (closesNow d (s .n) (s .«n_trials») (g .found)) (take (s .n) (g .values)) ≡ rowFor (sizeIn d (s .n)) (view s) h
+  unfolding closesNow counted askedOf
   row-by false q = refl
   row-by true q = go (leb (s .n) (s .«n_trials»)) refl ∙ sym (ap (λ (x : ℕ). cond (leb (s .n) x) (resultsOf de h (take (s .n) (numbers (view s .trials)))) none) numbers-long)
     where
-      go : (b : Bool) → leb (s .n) (s .«n_trials») ≡ b → rowIf (cond b (all isTrue (take (s .n) (g .found))) false) (take (s .n) (g .values)) ≡ cond b (resultsOf de h (take (s .n) (numbers (view s .trials)))) none
+      go : (b : Bool) → leb (s .n) (s .«n_trials») ≡ b → rowIf (b && all isTrue (take (s .n) (g .found))) (take (s .n) (g .values)) ≡ cond b (resultsOf de h (take (s .n) (numbers (view s .trials)))) none
       go true e =
           sym (rows h (s .n) (numbers (view s .trials)) (g .found) (g .values) (omega (arith, leb-true (s .n) (s .«n_trials») e, numbers-long))
           (omega (arith, found-length (asked .lo) (asked .hi) h (asked .wanted))) (omega (arith, values-length (asked .lo) (asked .hi) h (asked .wanted)))
@@ -131,3 +135,12 @@ module _ (L : Laws de) (s : State) (h : List CompletedTrial) (few : s .n ≤ 160
   pub gathered-call : (d : Distribution) (n : ℕ) → sampledOn s d n (g .nan) (rowIn s (g .found) (g .values)) ≡ sampleOf s d n h
   unfolding view
   gathered-call d n = (λ i. sampledOn s d n (found-nan i) (row-by (s .discovered) refl i)) ∙ sym (sampled-on L s d n h)
+
+  -- and where it closes, the counted results are numbers
+  pub gathered-numbers : g .nan ≡ false → closesNow (s .discovered) (s .n) (s .«n_trials») (g .found) ≡ true → All (λ v. v ≢ nan) (take (s .n) (g .values))
+  unfolding view
+  gathered-numbers e y = go (view s .size) (sym (ap (λ (b : Bool). rowIf b (take (s .n) (g .values))) y) ∙ row-by (s .discovered) refl)
+    where
+      go : (z : Option ℕ) → some (take (s .n) (g .values)) ≡ rowFor z (view s) h → All (λ v. v ≢ nan) (take (s .n) (g .values))
+      go none x = absurd (none≢some (sym x))
+      go (some N) x = counted-is de L N (numbers (view s .trials)) h (take (s .n) (g .values)) (sym found-nan ∙ e) (sym x) .good

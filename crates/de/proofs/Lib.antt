@@ -4,3 +4,6 @@ pub mod Gather
 pub mod Whole
 pub mod Laid
 pub mod Demand
+pub mod Accepting
+pub mod Sampling
+pub mod Scanned

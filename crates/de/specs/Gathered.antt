@@ -11,13 +11,14 @@ use Rattle.distribution.specs.Validate.{judged}
 use Rattle.distribution.specs.declared.Distribution.{Distribution}
 use Rattle.evolution.specs.declared.Setup.{Setup}
 use Rattle.history.specs.declared.CompletedTrial.{CompletedTrial}
-use Rattle.ledger.specs.Words.{_>>=_, orElse, refuseIf, has, isNone, all}
+use Rattle.ledger.specs.Words.{_>>=_, orElse, refuseIf, has, isNone}
 use Rattle.ledger.specs.Kernel.{Gen}
 use Rattle.ledger.specs.State as Plain
 use Rattle.ledger.specs.Assignment.{placeIn, Accepted, assign}
 use Rattle.ledger.specs.Closing.{close, counted}
 use Rattle.ledger.specs.Sample.{discovers, discover, begin, outcome}
 use Rattle.kernel.specs.De.{de}
+use Rattle.closing.specs.Raw.{closesNow}
 use Rattle.state.specs.Sound.{soundState}
 use Rattle.state.specs.View.{view}
 use Rattle.state.specs.declared.State.{State}
@@ -62,16 +63,9 @@ abbrev pub rowFor : Option ℕ → Plain.State de → List CompletedTrial → Op
 rowFor none m h = none
 rowFor (some N) m h = counted de N (Plain.numbers (m .trials)) h
 
-abbrev pub isTrue : Bool → Bool
-isTrue b = b
-
--- "at least N trials are assigned and its history has the first N", after discovery
-unfoldable pub closesFrom : Bool → ℕ → ℕ → List Bool → Bool
-closesFrom discovered n T found = cond discovered (cond (leb n T) (all isTrue (take n found)) false) false
-
 abbrev pub rowIf : Bool → List Float → Option (List Float)
 rowIf true vs = some vs
 rowIf false vs = none
 
 abbrev pub rowIn : State → List Bool → List Float → Option (List Float)
-rowIn s found vs = rowIf (closesFrom (s .discovered) (s .n) (s .«n_trials») found) (take (s .n) vs)
+rowIn s found vs = rowIf (closesNow (s .discovered) (s .n) (s .«n_trials») found) (take (s .n) vs)

@@ -6,3 +6,4 @@ pub mod Gathered
 pub mod Ask
 pub mod Whole
 pub mod Program
+pub mod Refusing

@@ -4,21 +4,27 @@ use mathlib.Core.Bool.{cond}
 use mathlib.Core.List.{List, [], map}
 use lib.Dec.{eqb}
 use lib.Ieee.{Float}
-use lib.ListN.{length}
+use lib.ListN.{length, getD}
 use Rattle.rng_util.specs.Many.{padTo}
 use Rattle.distribution.specs.declared.Refusal.the-variants.{StateNotSound}
 use Rattle.common.specs.Bounds.{zeroF}
+use Rattle.evolution.specs.Mutant.{noMember}
+use Rattle.evolution.specs.declared.Member.{Member}
 use Rattle.ledger.specs.State as Plain
 use Rattle.kernel.specs.De.{de}
 use Rattle.state.specs.Sound.{soundState}
 use Rattle.state.specs.View.{view}
 use Rattle.state.specs.declared.State.{State}
-use Rattle.de.specs.declared.look.Look.{Look}
-use Rattle.de.specs.declared.look.Look.the-variants.{Refused, Nothing, Best}
+use Rattle.de.specs.declared.look.LookAnswer.{LookAnswer}
+use Rattle.de.specs.declared.look.LookAnswer.the-variants.{Refused, Nothing, Best}
 use Rattle.de.specs.declared.look.Looked.{Looked}
 
+-- the value of slot i
+abbrev pub valueAt : List Member → ℕ → Float
+valueAt ms i = getD ms i noMember .value
+
 -- an answer without values
-abbrev pub bare : Look → Looked
+abbrev pub bare : LookAnswer → Looked
 bare a = record { look = a; n = 0; values = padTo 160 zeroF []; closed = 0; idle = 0 }
 
 -- best slot, the slots' values, and the two counters

@@ -17,7 +17,9 @@ use Rattle.state.specs.View.{view}
 use Rattle.state.specs.declared.State.{State}
 use Rattle.assignment.specs.Laid.{laidGiven}
 use Rattle.assignment.specs.declared.Accepted.{Accepted}
-use Rattle.de.specs.Gathered.{refusal, rowIf, closesFrom}
+use Rattle.history.specs.declared.Gathered.{Gathered}
+use Rattle.closing.specs.Raw.{closesNow}
+use Rattle.de.specs.Gathered.{refusal, rowIf}
 
 abbrev pub taken : Accepted → Option Accepted
 taken a = cond (a .ok) (some a) none
@@ -33,3 +35,7 @@ pub record Acceptable (s : State) (d : Distribution) (n : ℕ) (closes : Bool) (
   pub places : length results ≡ 160
   pub closing : closes ≡ true → s .discovered ≡ true
   pub numbers : closes ≡ true → All (λ v. v ≢ nan) (take (s .n) results)
+
+-- what a scan leaves: where a generation closes and no value is NaN, the counted results are numbers
+abbrev pub Numbers : State → Gathered → Type 0
+Numbers s g = soundState s ≡ true → g .nan ≡ false → closesNow (s .discovered) (s .n) (s .«n_trials») (g .found) ≡ true → All (λ v. v ≢ nan) (take (s .n) (g .values))

@@ -1,6 +1,6 @@
 -- Truth values: a place by whether it is in use, tests that all pass, and two tests that pass together.
 use mathlib.Core.Path.{_≡_, refl, sym, ap, ap₂, _∙_}
-use mathlib.Core.Bool.{Bool, true, false, _&&_, cond, true≢false}
+use mathlib.Core.Bool.{Bool, true, false, not, _&&_, cond, true≢false}
 use mathlib.Core.List.{List, [], _∷_}
 use mathlib.Core.Option.{Option, some}
 use Prim.Native.Nat.{ℕ, zero, suc}
@@ -18,6 +18,15 @@ if-unused {b = b} a u e = e ∙ ap (λ (x : Bool). cond x a b) (sym u)
 pub both-places : (used a b c d : Bool) {x y : Bool} → x ≡ cond used a b → y ≡ cond used c d → (x && y) ≡ cond used (a && c) (b && d)
 both-places true a b c d p q = ap₂ (λ (x y : Bool). x && y) p q
 both-places false a b c d p q = ap₂ (λ (x y : Bool). x && y) p q
+
+-- `if !t`, by which arm was taken
+pub failed : (t : Bool) → not t ≡ true → t ≡ false
+failed true e = absurd (true≢false (sym e))
+failed false e = refl
+
+pub passed : (t : Bool) → not t ≡ false → t ≡ true
+passed true e = refl
+passed false e = absurd (true≢false e)
 
 pub true-and : (a b : Bool) → (a && b) ≡ true → (a ≡ true) × (b ≡ true)
 true-and true b e = (refl, e)

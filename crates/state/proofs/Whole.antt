@@ -41,7 +41,7 @@ sizeFor s = sizeOf (s .setup .«population_size») (continuousCount (dimsOf s))
 abbrev phaseCounts : State → Bool → Bool
 phaseCounts s d = cond d (runningCounts (named s) (sizeFor s) (countsOf s)) (discoveringCounts (named s) (countsOf s))
 
-abbrev countTest : State → Bool
+abbrev pub countTest : State → Bool
 countTest s = countsSound (s .setup) (s .first) (s .discovered) (continuousCount (dimsOf s)) (countsOf s)
 
 split-counts : (s : State) → countTest s ≡ true → (isValid (setupVerdict (s .setup)) ≡ true) × (phaseCounts s (s .discovered) ≡ true)
@@ -75,6 +75,9 @@ module _ (s : State) (ok : isValid (setupVerdict (s .setup)) ≡ true) (few-dims
       let n : s .n ≡ 0 = eqb-true (s .n) 0 (r .0) in
       let t : s .«n_trials» ≡ 0 = eqb-true (s .«n_trials») 0 (r .1) in
       record { slots = omega arith; trials = omega arith }
+
+pub few-of : (s : State) → s .«n_dims» ≤ 16 → countTest s ≡ true → Few s
+few-of s h e = let r = split-counts s e in counts-few s (r .0) h (s .discovered) (r .1)
 
 -- ---- how much is in use
 
@@ -120,7 +123,7 @@ module _ (s : State) (m : Measured s) where
     ok = split-counts s (p .counts) .0
 
     few : Few s
-    few = counts-few s ok (p .few-dims) (s .discovered) (split-counts s (p .counts) .1)
+    few = few-of s (p .few-dims) (p .counts)
 
     dims-len : length (dimsOf s) ≡ s .«n_dims»
     dims-len = dims-many (p .few-dims)
@@ -141,7 +144,7 @@ module _ (s : State) (m : Measured s) where
         (and-true (ap (λ (k : ℕ). leb k (s .n + 64)) trials-len ∙ ap (λ (k : ℕ). leb (s .«n_trials») (k + 64)) n ∙ r .3)
         (and-true (ap differing (numbers-are (take (s .«n_trials») (s .trials))) ∙ p .differ)
         (and-true (ap (λ (k : ℕ). all (λ (t : Plain.Trial). leb (t .next) k) (map trialOf (take (s .«n_trials») (s .trials)))) dims-len
-            ∙ all-map (λ (t : Plain.Trial). leb (t .next) (s .«n_dims»)) trialOf (take (s .«n_trials») (s .trials)) ∙ split-places (nextFits (s .«n_dims»)) isBlankTrial (s .«n_trials») (s .trials) (p .trials) .0)
+        ∙ all-map (λ (t : Plain.Trial). leb (t .next) (s .«n_dims»)) trialOf (take (s .«n_trials») (s .trials)) ∙ split-places (nextFits (s .«n_dims»)) isBlankTrial (s .«n_trials») (s .trials) (p .trials) .0)
         (and-true (split-places (fits (dimsOf s)) isBlankCandidate (candidateCount s) (s .candidates) (p .candidates) .0)
         (and-true (parents-counted few)
         (and-true (ps .0)

@@ -6,10 +6,20 @@ ghost use lib.Dec.{eqb};
 ghost use Rattle.ledger.specs.Words.{isSome};
 ghost use Rattle.state.specs.View.{firstIn};
 ghost use Rattle.state.specs.Places.{discoveringCounts, runningCounts, countsSound};
+ghost use Rattle.state.specs.Sound.{soundState};
 use super::FirstTrial;
+use super::State;
+use crate::lists::numbers_differ;
+use crate::places::candidates_fit;
+use crate::places::dims_fit;
+use crate::places::limits_of;
+use crate::places::parents_fit;
+use crate::places::trials_fit;
 use crate::setup::is_valid;
 use crate::setup::validate_setup;
 use evolution::Setup;
+use selection::best_slot;
+use selection::population_size;
 
 // The counts of a state.
 pub struct Counts {
@@ -67,4 +77,74 @@ fn parent_count(closed: u32, n: usize) -> usize
         return 0;
     }
     n
+}
+
+// The set-up and the counts; `n_continuous` of the dimensions are continuous.
+fn counts_sound(
+    setup: Setup,
+    first: FirstTrial,
+    discovered: bool,
+    n_continuous: usize,
+    counts: Counts,
+) -> bool
+    requires { ⌜ «n_continuous» ≤ 16 ⌝ }
+    ensures { λ r. ⌜ r ≡ countsSound setup first discovered «n_continuous» counts ⌝ }
+{
+    if !is_valid(validate_setup(setup)) {
+        return false;
+    }
+    let named = is_named(first);
+    if discovered {
+        let user = setup.population_size;
+        let size = population_size(user, n_continuous);
+        return running_counts(named, size, counts);
+    }
+    discovering_counts(named, counts)
+}
+
+// Refusal 0 is for the states that are not.
+pub fn is_sound(state: State) -> bool
+    ensures { λ r. ⌜ r ≡ soundState state ⌝ }
+{
+    let n_dims = state.n_dims;
+    let dims = state.dims;
+    if n_dims > 16 {
+        return false;
+    }
+    if !dims_fit(dims, n_dims) {
+        return false;
+    }
+    let limits = limits_of(dims, n_dims);
+    let setup = state.setup;
+    let first = state.first;
+    let n = state.n;
+    let n_trials = state.n_trials;
+    let counts = Counts {
+        n,
+        n_dims,
+        n_trials,
+        closed: state.closed,
+        idle: state.idle,
+    };
+    if !counts_sound(setup, first, state.discovered, limits.n, counts) {
+        return false;
+    }
+    let candidates = state.candidates;
+    let n_candidates = candidate_count(state.discovered, n, n_trials);
+    if !candidates_fit(candidates, n_candidates, limits) {
+        return false;
+    }
+    let trials = state.trials;
+    if !trials_fit(trials, n_trials, n_dims) {
+        return false;
+    }
+    if !numbers_differ(trials, n_trials) {
+        return false;
+    }
+    let parents = state.parents;
+    let n_parents = parent_count(state.closed, n);
+    if !parents_fit(parents, n_parents, limits) {
+        return false;
+    }
+    state.best == best_slot(parents, n_parents)
 }

