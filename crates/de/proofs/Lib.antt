@@ -7,3 +7,4 @@ pub mod Demand
 pub mod Accepting
 pub mod Sampling
 pub mod Scanned
+pub mod Looking

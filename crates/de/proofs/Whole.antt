@@ -95,8 +95,13 @@ nexts-draws : (S : Setup) (ds : List DimensionInfo) (ps : List (K.Parent Candida
 unfolding nextsOf
 nexts-draws S ds ps b g x q h l =
     let r = nextCandidates S (map memberOf ps) b (spaceOf ds) (codeGen g) in
-    omega (arith, made-draws (anyBad (r .out)) r x q, ceiling S (map memberOf ps) b ds (codeGen g), length-map ps memberOf,
-        product-few (length (map memberOf ps)) (length ds) (tries (S .strategy)) (omega (arith, length-map ps memberOf)) l (tries-few (S .strategy)))
+    omega (
+      arith,
+      made-draws (anyBad (r .out)) r x q,
+      ceiling S (map memberOf ps) b ds (codeGen g),
+      length-map ps memberOf,
+      product-few (length (map memberOf ps)) (length ds) (tries (S .strategy)) (omega (arith, length-map ps memberOf)) l (tries-few (S .strategy)),
+    )
 
 module _ (L : Laws de) (S : Setup) (m : Plain.State de) (ok : isValid (setupVerdict S) ≡ true) (v : Sound de S m) (d : Distribution) (good : judged d ≡ none) (n : ℕ) where
   -- what the definition assigns in an open generation

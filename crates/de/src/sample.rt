@@ -82,13 +82,7 @@ fn refusal_of(d: Distribution, nan: bool, counts: Verdict) -> Verdict
 }
 
 // A call that no refusal of 0 and 4 to 10 stops. Where it is not ok, refusal 11 is for it.
-fn accept(
-    state: State,
-    d: Distribution,
-    trial: u64,
-    closes: bool,
-    results: [f64; 160],
-) -> Accepted
+fn accept(state: State, d: Distribution, trial: u64, closes: bool, results: [f64; 160]) -> Accepted
     requires { ⌜ Acceptable state d trial closes results ⌝ }
     ensures { λ r. ⌜ taken r ≡ laidTaken (state .setup) (acceptOn (state .setup) (view state .size) (view state) trial d (rowIf closes (take (state .n) results))) ⌝ }
 {
@@ -145,7 +139,15 @@ pub fn sample_gathered(state: State, d: Distribution, trial: u64, g: Gathered) -
         let place = place_of(trials, n_trials, trial);
         let first = state.first;
         let of_discovery = discovers(first, trial);
-        let counts = count_refusal(state.discovered, of_discovery, state.n_dims, closes, place, n, n_trials);
+        let counts = count_refusal(
+            state.discovered,
+            of_discovery,
+            state.n_dims,
+            closes,
+            place,
+            n,
+            n_trials,
+        );
         let verdict = refusal_of(d, g.nan, counts);
         match verdict {
             Verdict::Refused(r) => {

@@ -7,8 +7,8 @@ use native.Mathlib.Omega.{arith}
 use native.Mathlib.Nat.{not-suc-le-zero, le-of-suc-le-suc, le-refl}
 use borrow.Author.Tests.{lt-ltb, le-ltb, eq-eqb, ne-eqb}
 use lib.Dec.{eqb, ltb}
-use lib.Ieee.{Float}
-use lib.ListN.{length, getD, take, replicate, length-map}
+use lib.Ieee.{Float, nan, inf, fin}
+use lib.ListN.{length, getD, take, drop, replicate, length-map}
 use Rattle.rng_util.specs.Many.{padTo, listed}
 use Rattle.distribution.specs.Validate.{isFinite, verdictOf, refusalOf, judged}
 use Rattle.distribution.specs.declared.Distribution.{Distribution}
@@ -30,7 +30,8 @@ use Rattle.evolution.specs.declared.Member.{Member}
 use Rattle.ledger.specs.Soundness.{isNumber}
 use Rattle.state.specs.Blank.{isBlankCandidate, isBlankMember}
 use Rattle.state.specs.Places.{placesFit, memberFits, limitsOf, choicesBelow}
-use Rattle.state.proofs.Flags.{both-places}
+use Rattle.state.proofs.Flags.{both-places, true-and, and-true}
+use Rattle.state.proofs.Loops.{and-assoc, and-yes}
 use Rattle.state.specs.declared.places.Limits.{Limits}
 use Rattle.state.proofs.Measured.{Sized}
 
@@ -38,11 +39,7 @@ entries-are : (n : ℕ) (xs : List Float) → n ≤ length xs → placesFit isFi
 unfolding placesFit entriesFit all
 entries-are zero xs h = refl
 entries-are (suc n) [] h = absurd (not-suc-le-zero h)
-entries-are (suc n) (x ∷ xs) h = and-assoc (isFinite x) _ _ ∙ ap (λ (b : Bool). isFinite x && b) (entries-are n xs (le-of-suc-le-suc h))
-  where
-    and-assoc : (a b c : Bool) → ((a && b) && c) ≡ (a && (b && c))
-    and-assoc true b c = refl
-    and-assoc false b c = refl
+entries-are (suc n) (x ∷ xs) h = sym (and-assoc (isFinite x) _ _) ∙ ap (λ (b : Bool). isFinite x && b) (entries-are n xs (le-of-suc-le-suc h))
 
 -- below 1 is 0
 below-one : (c : ℕ) → ltb c 1 ≡ eqb 0 c
@@ -69,10 +66,39 @@ fits-by c limits a b z p q ds few e =
     (q ∙ ap (λ (l : Limits). choicesBelow (c .choices) (l .choices)) e
     ∙ choices-are ds (c .choices) (16 - length (map choiceLimit ds)) (omega (arith, length-map ds choiceLimit, z .choices)))
 
--- without dimensions
-pub no-limits-are : record { n = 0; choices = replicate 16 1 } ≡ limitsOf []
-unfolding continuousDims
-no-limits-are = refl
+-- ---- unused entries are finite too
+
+zero-finite : (v : Float) → isZero v ≡ true → isFinite v ≡ true
+zero-finite nan e = e
+zero-finite (inf s) e = e
+zero-finite (fin s m d) e = refl
+
+all-parts : {A : Type 0} (p : A → Bool) (n : ℕ) (xs : List A) → all p xs ≡ (all p (take n xs) && all p (drop n xs))
+unfolding all
+all-parts p zero xs = refl
+all-parts p (suc n) [] = refl
+all-parts p (suc n) (x ∷ xs) = ap (λ (b : Bool). p x && b) (all-parts p n xs) ∙ and-assoc (p x) (all p (take n xs)) (all p (drop n xs))
+
+zeros-finite : (xs : List Float) → all isZero xs ≡ true → all isFinite xs ≡ true
+unfolding all
+zeros-finite [] e = refl
+zeros-finite (x ∷ xs) e = let r = true-and (isZero x) (all isZero xs) e in and-true (zero-finite x (r .0)) (zeros-finite xs (r .1))
+
+and-no : (b : Bool) → (b && false) ≡ false
+and-no true = refl
+and-no false = refl
+
+pub entries-by : (n : ℕ) (xs : List Float) {a b : Bool} → a ≡ all isFinite xs → b ≡ all isZero (drop n xs) → (a && b) ≡ placesFit isFinite isZero n xs
+unfolding placesFit
+entries-by n xs p q = ap₂ (λ (x y : Bool). x && y) (p ∙ all-parts isFinite n xs) q ∙ go (all isZero (drop n xs)) refl
+  where
+    go : (z : Bool) → all isZero (drop n xs) ≡ z → ((all isFinite (take n xs) && all isFinite (drop n xs)) && z) ≡ (all isFinite (take n xs) && z)
+    go true e = ap (λ (b : Bool). (all isFinite (take n xs) && b) && true) (zeros-finite (drop n xs) e) ∙ ap (λ (b : Bool). b && true) (and-yes (all isFinite (take n xs)))
+    go false e = and-no (all isFinite (take n xs) && all isFinite (drop n xs)) ∙ sym (and-no (all isFinite (take n xs)))
+
+pub blank-by : (c : Candidate) {a b : Bool} → a ≡ all isZero (c .x) → b ≡ all (eqb 0) (c .choices) → (a && b) ≡ isBlankCandidate c
+unfolding fits entriesFit choicesFit continuousDims
+blank-by c p q = ap₂ (λ (x y : Bool). x && y) p q
 
 pub member-place : (m : Member) (used : Bool) (ds : List DimensionInfo) {a b : Bool} → a ≡ cond used (fits ds (m .candidate)) (isBlankCandidate (m .candidate)) → b ≡ cond used (isNumber (m .value)) (isZero (m .value))
     → (a && b) ≡ cond used (memberFits ds m) (isBlankMember m)

@@ -6,7 +6,7 @@ use mathlib.Core.List.{List, [], _∷_}
 use Prim.Native.Nat.{ℕ, zero, suc, _+_, _-_, _≤_, _<_}
 use native.Mathlib.Omega.{arith}
 use native.Mathlib.Nat.{sub-zero}
-use borrow.Author.Tests.{ltb-true, ltb-false, lt-ltb, le-ltb}
+use borrow.Author.Tests.{ltb-true, ltb-false}
 use lib.Dec.{ltb}
 use lib.ListN.{length, getD, take, drop, drop-of-length-le}
 use Rattle.candidates.proofs.Lists.{next-drop}
@@ -18,6 +18,10 @@ left n i h = omega arith
 
 none-left : (n i : ℕ) → n ≤ i → n - i ≡ 0
 none-left n i h = omega arith
+
+pub and-assoc : (a b c : Bool) → (a && (b && c)) ≡ ((a && b) && c)
+and-assoc true b c = refl
+and-assoc false b c = refl
 
 -- ---- places in use and others
 
@@ -44,11 +48,7 @@ module _ {A : Type 0} (right blank : A → Bool) (n : ℕ) (xs : List A) where
       where
         go : (b : Bool) → ltb i n ≡ b → t ≡ cond b (right (getD xs i z)) (blank (getD xs i z))
             → (all right (take (n - i) (getD xs i z ∷ drop (i + 1) xs)) && all blank (drop (n - i) (getD xs i z ∷ drop (i + 1) xs))) ≡ (t && Rest (i + 1))
-        go true q f = rw (left n i (ltb-true i n q), f) (and-assoc (right (getD xs i z)) _ _)
-          where
-            and-assoc : (a b c : Bool) → ((a && b) && c) ≡ (a && (b && c))
-            and-assoc true b c = refl
-            and-assoc false b c = refl
+        go true q f = rw (left n i (ltb-true i n q), f) (sym (and-assoc (right (getD xs i z)) _ _))
         go false q f = rw (none-left n i (ltb-false i n q), none-left n (i + 1) (omega (arith, ltb-false i n q)), f)
 
     pub rest-yes : t ≡ true → Rest i ≡ Rest (i + 1)
@@ -57,19 +57,42 @@ module _ {A : Type 0} (right blank : A → Bool) (n : ℕ) (xs : List A) where
     pub rest-no : t ≡ false → Rest i ≡ false
     rest-no f = rest-next ∙ ap (λ (b : Bool). b && Rest (i + 1)) f
 
--- ---- choices and their limits
+-- ---- a sweep: f says whether all passed places pass, and what is left decides with it
 
-module _ (cs ls : List ℕ) (k : ℕ) (h : k < length cs) (l : k < length ls) where
-  below-next : choicesBelow (drop k cs) (drop k ls) ≡ (ltb (getD cs k 0) (getD ls k 0) && choicesBelow (drop (k + 1) cs) (drop (k + 1) ls))
+pub and-yes : (f : Bool) → (f && true) ≡ f
+and-yes true = refl
+and-yes false = refl
+
+module _ {A : Type 0} (p : A → Bool) (xs : List A) (i : ℕ) where
+  pub sweep-turn : (z : A) (f t : Bool) → i < length xs → t ≡ p (getD xs i z) → (f && all p (drop i xs)) ≡ ((f && t) && all p (drop (i + 1) xs))
+  unfolding all
+  sweep-turn z f t h e = rw (next-drop xs i z h, e) (and-assoc f (p (getD xs i z)) (all p (drop (i + 1) xs)))
+
+  pub sweep-end : (f : Bool) → length xs ≤ i → (f && all p (drop i xs)) ≡ f
+  unfolding all
+  sweep-end f h = rw (drop-of-length-le xs {i = i} h) (and-yes f)
+
+module _ (cs ls : List ℕ) (k : ℕ) (f : Bool) where
+  pub below-turn : k < length cs → k < length ls
+      → (f && choicesBelow (drop k cs) (drop k ls)) ≡ ((f && ltb (getD cs k 0) (getD ls k 0)) && choicesBelow (drop (k + 1) cs) (drop (k + 1) ls))
   unfolding choicesBelow
-  below-next = rw (next-drop cs k 0 h, next-drop ls k 0 l)
+  below-turn h l = rw (next-drop cs k 0 h, next-drop ls k 0 l) (and-assoc f (ltb (getD cs k 0) (getD ls k 0)) (choicesBelow (drop (k + 1) cs) (drop (k + 1) ls)))
 
-  pub below-yes : getD cs k 0 < getD ls k 0 → choicesBelow (drop k cs) (drop k ls) ≡ choicesBelow (drop (k + 1) cs) (drop (k + 1) ls)
-  below-yes q = below-next ∙ ap (λ (b : Bool). b && choicesBelow (drop (k + 1) cs) (drop (k + 1) ls)) (lt-ltb _ _ q)
+  pub below-end : length cs ≤ k → (f && choicesBelow (drop k cs) (drop k ls)) ≡ f
+  unfolding choicesBelow
+  below-end h = rw (drop-of-length-le cs {i = k} h) (and-yes f)
 
-  pub below-no : getD ls k 0 ≤ getD cs k 0 → choicesBelow (drop k cs) (drop k ls) ≡ false
-  below-no q = below-next ∙ ap (λ (b : Bool). b && choicesBelow (drop (k + 1) cs) (drop (k + 1) ls)) (le-ltb _ _ q)
+-- ---- all places from one on, stopping at the first that fails
 
-pub below-end : (cs ls : List ℕ) (k : ℕ) → length cs ≤ k → choicesBelow (drop k cs) (drop k ls) ≡ true
-unfolding choicesBelow
-below-end cs ls k h = rw (drop-of-length-le cs {i = k} h)
+module _ {A : Type 0} (p : A → Bool) (xs : List A) (i : ℕ) (z : A) (t : Bool) (h : i < length xs) (e : t ≡ p (getD xs i z)) where
+  pub all-yes : t ≡ true → all p (drop i xs) ≡ all p (drop (i + 1) xs)
+  unfolding all
+  all-yes f = rw (next-drop xs i z h) (ap (λ (b : Bool). b && all p (drop (i + 1) xs)) (sym e ∙ f))
+
+  pub all-no : t ≡ false → all p (drop i xs) ≡ false
+  unfolding all
+  all-no f = rw (next-drop xs i z h) (ap (λ (b : Bool). b && all p (drop (i + 1) xs)) (sym e ∙ f))
+
+pub all-end : {A : Type 0} (p : A → Bool) (xs : List A) (i : ℕ) → length xs ≤ i → all p (drop i xs) ≡ true
+unfolding all
+all-end p xs i h = rw (drop-of-length-le xs {i = i} h)

@@ -1,14 +1,16 @@
 // Place tests: what is in use is right, and what is not is as in a fresh state.
 ghost use mathlib.Core.Path.{_≡_};
 ghost use mathlib.Core.Bool.{_&&_, cond};
-ghost use mathlib.Core.List.{List, [], map};
+ghost use mathlib.Core.List.{List, map};
 ghost use Prim.Native.Nat.{_≤_};
-ghost use lib.ListN.{length, take};
+ghost use lib.Dec.{eqb};
+ghost use lib.ListN.{length, take, drop};
 ghost use Rattle.rng_util.specs.Many.{padTo};
 ghost use Rattle.distribution.specs.Validate.{isFinite};
 ghost use Rattle.distribution.specs.Dims.{choicesOf};
 ghost use Rattle.candidates.specs.Space.{FewChoices};
 ghost use Rattle.ledger.specs.Soundness.{isNumber};
+ghost use Rattle.ledger.specs.Words.{all};
 ghost use Rattle.kernel.specs.Fits.{isZero, choiceLimit, fits};
 ghost use Rattle.state.specs.Blank.{isBlankDistribution, isBlankDim, isBlankTrial, isBlankCandidate, isBlankMember};
 ghost use Rattle.state.specs.Places.{placesFit, passes, nextFits, memberFits, limitsOf, choicesBelow};
@@ -42,19 +44,62 @@ fn is_zero(v: f64) -> bool
     f64::to_bits(v) == 0
 }
 
-fn entry_place(v: f64, used: bool) -> bool
-    ensures { λ r. ⌜ r ≡ cond used (isFinite v) (isZero v) ⌝ }
+// These sweeps have no early way out: without a branch many places are tested at once.
+fn all_finite(x: [f64; 16]) -> bool
+    ensures { λ r. ⌜ r ≡ all isFinite x ⌝ }
 {
-    if used { is_finite(v) } else { is_zero(v) }
-}
-
-// n finite entries, and unused ones after them.
-fn entries_fit(x: [f64; 16], n: usize) -> bool
-    ensures { λ r. ⌜ r ≡ placesFit isFinite isZero n x ⌝ }
-{
+    let mut fit = true;
     let mut j: usize = 0;
     while j < 16 {
-        if entry_place(x[j], j < n) {
+        fit = fit & is_finite(x[j]);
+        j += 1;
+    }
+    fit
+}
+
+fn all_zero(x: [f64; 16]) -> bool
+    ensures { λ r. ⌜ r ≡ all isZero x ⌝ }
+{
+    let mut fit = true;
+    let mut j: usize = 0;
+    while j < 16 {
+        fit = fit & is_zero(x[j]);
+        j += 1;
+    }
+    fit
+}
+
+fn no_choices(choices: [u16; 16]) -> bool
+    ensures { λ r. ⌜ r ≡ all (eqb 0) choices ⌝ }
+{
+    let mut fit = true;
+    let mut k: usize = 0;
+    while k < 16 {
+        fit = fit & (0 == choices[k]);
+        k += 1;
+    }
+    fit
+}
+
+fn choices_fit(choices: [u16; 16], limits: [u16; 16]) -> bool
+    ensures { λ r. ⌜ r ≡ choicesBelow choices limits ⌝ }
+{
+    let mut fit = true;
+    let mut k: usize = 0;
+    while k < 16 {
+        fit = fit & (choices[k] < limits[k]);
+        k += 1;
+    }
+    fit
+}
+
+// Unused entries from place n on.
+fn zeros_from(x: [f64; 16], n: usize) -> bool
+    ensures { λ r. ⌜ r ≡ all isZero (drop n x) ⌝ }
+{
+    let mut j = n;
+    while j < 16 {
+        if is_zero(x[j]) {
             j += 1;
         } else {
             return false;
@@ -63,18 +108,11 @@ fn entries_fit(x: [f64; 16], n: usize) -> bool
     true
 }
 
-fn choices_fit(choices: [u16; 16], limits: [u16; 16]) -> bool
-    ensures { λ r. ⌜ r ≡ choicesBelow choices limits ⌝ }
+// n finite entries, and unused ones after them, which are finite too.
+fn entries_fit(x: [f64; 16], n: usize) -> bool
+    ensures { λ r. ⌜ r ≡ placesFit isFinite isZero n x ⌝ }
 {
-    let mut k: usize = 0;
-    while k < 16 {
-        if choices[k] < limits[k] {
-            k += 1;
-        } else {
-            return false;
-        }
-    }
-    true
+    all_finite(x) & zeros_from(x, n)
 }
 
 // A candidate of the dimensions that the limits are of.
@@ -87,12 +125,12 @@ fn candidate_fits(c: Candidate, limits: Limits) -> bool
     entries_fit(x, limits.n) & choices_fit(choices, below)
 }
 
-// The limits of no dimension: whatever fits them is blank.
-fn no_limits() -> Limits
-    ensures { λ r. ⌜ r ≡ limitsOf [] ⌝ }
+fn is_blank_candidate(c: Candidate) -> bool
+    ensures { λ r. ⌜ r ≡ isBlankCandidate c ⌝ }
 {
-    let choices = [1u16; 16];
-    Limits { n: 0, choices }
+    let x = c.x;
+    let choices = c.choices;
+    all_zero(x) & no_choices(choices)
 }
 
 fn candidate_place(c: Candidate, used: bool, limits: Limits) -> bool
@@ -101,7 +139,7 @@ fn candidate_place(c: Candidate, used: bool, limits: Limits) -> bool
     if used {
         return candidate_fits(c, limits);
     }
-    candidate_fits(c, no_limits())
+    is_blank_candidate(c)
 }
 
 fn value_place(v: f64, used: bool) -> bool

@@ -1,49 +1,49 @@
+-- `slot_values` meets its contract: `Fill` with the parents' values.
+use Prim.Native.Nat.{_≤_, _-_}
+use mathlib.Core.Path.{_≡_, refl}
+use native.Mathlib.Omega.{arith}
+use Rattle.candidates.proofs.Fill.{Fill, fill-first, fill-again, fill-last}
+use Rattle.common.specs.Bounds.{zeroF}
+use Rattle.de.specs.Look.{valueAt}
 use Rattle.de.proofs.look.slot_values.Statement.{statement}
 use Rattle.de.proofs.look.slot_values.Tie as tie
-use Rattle.de.proofs.look.slot_values.Reads as reads
-use Rattle.de.proofs.look.slot_values.Lts as lts
 
 abbrev Inv-loop : tie.InvT-loop
-Inv-loop n parents values₀ i₀ values i = ?
+Inv-loop n parents values₀ i₀ values i = (i ≤ n) × Fill 160 zeroF (valueAt parents) n values i
 
 abbrev μ-loop : tie.MeasureT-loop
-μ-loop n parents values₀ i₀ values i = ?
+μ-loop n parents values₀ i₀ values i = n - i
 
--- src/look.rt:49:5
 loop-holds : tie.Need-loop-holds Inv-loop μ-loop
-loop-holds c = ?
+loop-holds c = (omega arith, fill-first _ _ _ _)
 
--- src/look.rt:50:21
 mul-values : tie.Need-mul-values Inv-loop μ-loop
-mul-values c = ?
+mul-values c = omega arith
 
--- src/look.rt:50:21
 element-copy-out-values : tie.Need-element-copy-out-values Inv-loop μ-loop
-element-copy-out-values c = ?
+element-copy-out-values c = omega arith
 
--- src/look.rt:50:9
 mul-values-2 : tie.Need-mul-values-2 Inv-loop μ-loop
-mul-values-2 c = ?
+mul-values-2 c = omega arith
 
--- src/look.rt:50:9
 array-write-values : tie.Need-array-write-values Inv-loop μ-loop
-array-write-values c = ?
+array-write-values c = omega arith
 
--- src/look.rt:51:9
 add-i : tie.Need-add-i Inv-loop μ-loop
-add-i c = ?
+add-i c = omega arith
 
--- src/look.rt:49:5
 loop-less : tie.Need-loop-less Inv-loop μ-loop
-loop-less c = ?
+loop-less c = omega arith
 
--- src/look.rt:49:5
 loop-again : tie.Need-loop-again Inv-loop μ-loop
-loop-again c = ?
+loop-again c =
+    let k = c .before in
+    (omega arith, fill-again 160 zeroF (valueAt (k .before .args .t1)) (k .before .args .n) _ (k .loop .i) _ (omega arith) (omega arith) refl (k .loop .inv .1))
 
--- src/look.rt:43:1
 returns : tie.Need-returns Inv-loop μ-loop
-returns c = ?
+returns c =
+    let k = c .before in
+    fill-last 160 zeroF (valueAt (k .before .args .t1)) (k .before .args .n) _ (k .loop .i) (omega arith) (k .loop .inv .1)
 
 pub slot-values-spec : {M : Type 1} → statement M
 slot-values-spec =

@@ -1,29 +1,29 @@
+-- `build` meets its contract: by what `validate_setup` answers.
+use mathlib.Core.Path.{sym, ap, _∙_}
 use borrow.Author.Needs.{needs}
+use Rattle.distribution.specs.declared.Verdict.{Verdict}
+use Rattle.de.specs.Build.{builtBy, builtOf}
 use Rattle.de.proofs.build.DESamplerBuilder.build.Statement.{statement}
 use Rattle.de.proofs.build.DESamplerBuilder.build.Tie as tie
-use Rattle.de.proofs.build.DESamplerBuilder.build.Reads as reads
-use Rattle.de.proofs.build.DESamplerBuilder.build.Lts as lts
-use Rattle.state.proofs.setup.validate_setup.Reads as validate-setup-reads
 
--- src/build.rt:102:13
 validate-setup-requires : tie.Need-validate-setup-requires
 validate-setup-requires c κs = search needs
 
--- src/build.rt:104:30
 enum-known-verdict : tie.Need-enum-known-verdict
 enum-known-verdict c = search needs
 
--- src/build.rt:105:31
 enum-told : tie.Need-enum-told
 enum-told c = search needs
 
--- src/build.rt:98:5
 returns : tie.Need-returns
-returns c = ?
+unfolding builtOf
+returns c =
+    sym (ap (λ (v : Verdict). builtBy v (c .before .before .before .before .before .args .self .setup)) (sym (c .before .before .before .validate-setup .ensures) ∙ c .before .verdict .given .1))
 
--- src/build.rt:98:5
 returns-2 : tie.Need-returns-2
-returns-2 c = ?
+unfolding builtOf
+returns-2 c =
+    sym (ap (λ (v : Verdict). builtBy v (c .before .before .before .before .args .self .setup)) (sym (c .before .before .validate-setup .ensures) ∙ c .enum-told .given .1))
 
 pub build-spec : {M : Type 1} → statement M
 build-spec =
