@@ -23,6 +23,7 @@ use Rattle.candidates.specs.declared.Space.{Space}
 use Rattle.candidates.proofs.Lists.{next-drop}
 
 -- ---- entries: one draw each
+
 entries-from : (s : Space) (k i : ℕ) (g : Gen) → many (entryAt s) k i g .after .draws ≡ g .draws + k
 unfolding many randomEntry drawOf
 entries-from s zero i g = omega arith

@@ -15,13 +15,15 @@ use Rattle.candidates.specs.declared.Candidate.{Candidate}
 abbrev pub packed : List Float → List ℕ → Candidate
 packed xs cs = record { x = padTo 16 zeroF xs; choices = padTo 16 0 cs }
 
+-- a candidate of which every place is unused
 abbrev pub blankCandidate : Candidate
 blankCandidate = record { x = replicate 16 zeroF; choices = replicate 16 0 }
 
--- "a vector has entries for the second only": the entry at a place among the continuous dimensions, the choice at a place among all; 0 past the last place
+-- "a vector has entries for the second only": the entry at a place among the continuous dimensions, 0 past the last
 abbrev pub entryOf : Candidate → Ci → Float
 entryOf c at = getD (c .x) (at .0) zeroF
 
+-- the choice at a place among all dimensions, 0 past the last
 abbrev pub choiceOf : Candidate → DimIdx → ℕ
 choiceOf c at = getD (c .choices) (at .0) 0
 

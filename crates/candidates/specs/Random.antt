@@ -22,6 +22,7 @@ randomEntry b g = made (rangeOf (b .low) (b .high) (unitOf (drawOf g .output))) 
 abbrev pub nanBounds : Bounds
 nanBounds = record { low = nan; high = nan }
 
+-- entry j of a vector
 abbrev pub entryAt : Space → ℕ → Gen → Made Float
 entryAt s j = randomEntry (getD (s .bounds) j nanBounds)
 
@@ -33,6 +34,7 @@ randomEntries s g = many (entryAt s) (s .n) 0 g
 unfoldable pub randomChoice : ℕ → Gen → Made ℕ
 randomChoice k g = cond (eqb k 0) (made 0 g) (made (usizeOf (drawOf g .output) k) (drawOf g .after))
 
+-- the choice of dimension i
 abbrev pub choiceAt : Space → ℕ → Gen → Made ℕ
 choiceAt s i = randomChoice (getD (s .counts) i 0)
 
@@ -44,6 +46,7 @@ randomChoices s g = many (choiceAt s) (s .«n_dims») 0 g
 abbrev pub withChoices : Space → Made (List Float) → Made Candidate
 withChoices s xs = made (packed (xs .out) (randomChoices s (xs .after) .out)) (randomChoices s (xs .after) .after)
 
+-- "Random candidate": entries, then choices
 unfoldable pub randomCandidate : Space → Gen → Made Candidate
 randomCandidate s g = withChoices s (randomEntries s g)
 

@@ -14,6 +14,11 @@ use Rattle.candidates.specs.declared.DrawnChoices.{DrawnChoices}
 use Rattle.candidates.specs.declared.DrawnCandidate.{DrawnCandidate}
 use Rattle.candidates.specs.declared.DrawnCandidates.{DrawnCandidates}
 
+-- a vector in an array of 16 places
+abbrev pub rowRec : List Float → List Float
+rowRec = padTo 16 zeroF
+
+-- a number for each dimension in an array of 16 places
 abbrev pub padCounts : List ℕ → List ℕ
 padCounts = padTo 16 0
 
@@ -21,13 +26,13 @@ abbrev pub entryRec : Made Float → DrawnEntry
 entryRec m = record { entry = m .out; after = m .after }
 
 abbrev pub entriesRec : Made (List Float) → DrawnEntries
-entriesRec m = record { x = padTo 16 zeroF (m .out); after = m .after }
+entriesRec m = record { x = rowRec (m .out); after = m .after }
 
 abbrev pub choiceRec : Made ℕ → DrawnChoice
 choiceRec m = record { choice = m .out; after = m .after }
 
 abbrev pub choicesRec : Made (List ℕ) → DrawnChoices
-choicesRec m = record { choices = padTo 16 0 (m .out); after = m .after }
+choicesRec m = record { choices = padCounts (m .out); after = m .after }
 
 abbrev pub candidateRec : Made Candidate → DrawnCandidate
 candidateRec m = record { candidate = m .out; after = m .after }

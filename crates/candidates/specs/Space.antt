@@ -28,10 +28,11 @@ continuousBounds ds = map boundsOf (continuousDims ds)
 abbrev pub choiceCounts : List DimensionInfo → List ℕ
 choiceCounts = map choicesOf
 
--- both in arrays, with their lengths
+-- the first in an array, with its length
 unfoldable pub spansOf : List DimensionInfo → Spans
 spansOf ds = record { bounds = padTo 16 noBounds (continuousBounds ds); n = continuousCount ds }
 
+-- the search space of the discovered dimensions: both in arrays, with n and D
 unfoldable pub spaceOf : List DimensionInfo → Space
 unfolding spansOf
 spaceOf ds = record { bounds = spansOf ds .bounds; n = spansOf ds .n; counts = padTo 16 0 (choiceCounts ds); «n_dims» = length ds }

@@ -10,8 +10,9 @@ use Rattle.rng_util.specs.Gen.{Made}
 use Rattle.rng_util.specs.Many.{padTo, many, listed, consMade}
 use Rattle.rng_util.specs.declared.Gen.{Gen}
 use Rattle.common.specs.Bounds.{zeroF}
+use Rattle.candidates.specs.Records.{rowRec}
 use Rattle.evolution.specs.Mutant.{noMember, entries, mutantEntry}
-use Rattle.evolution.specs.Flat.{flatAt, flatOf, inFlat, inRow, rowRec}
+use Rattle.evolution.specs.Flat.{flatAt, flatOf, inFlat, inRow}
 use Rattle.evolution.specs.declared.Member.{Member}
 use Rattle.evolution.specs.declared.DEStrategy.{DEStrategy}
 

@@ -16,6 +16,7 @@ use Rattle.rng_util.proofs.Parts.{left, none}
 use Rattle.evolution.specs.Select.{isFree, lowestFree, selectFrom}
 
 -- ---- the loop, a draw at a time
+
 module _ (N : ℕ) (ts : List ℕ) (k : ℕ) (g : Gen) where
   module _ (d : Drawn) (i : ℕ) (r : Bool) (h : k < 1024) (e : d ≡ drawOf g) (q : i ≡ usizeOf (d .output) N) (f : r ≡ isFree ts i) where
     index-is : i ≡ usizeOf (drawOf g .output) N

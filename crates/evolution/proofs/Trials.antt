@@ -15,7 +15,7 @@ use Rattle.rng_util.specs.declared.Gen.{Gen}
 use Rattle.rng_util.specs.declared.Drawn.{Drawn}
 use Rattle.common.specs.declared.Bounds.{Bounds}
 use Rattle.candidates.specs.Random.{nanBounds, randomChoices, withChoices, randomCandidates}
-use Rattle.candidates.specs.Records.{entryRec, entriesRec, choicesRec, candidateRec, candidatesRec}
+use Rattle.candidates.specs.Records.{rowRec, entryRec, entriesRec, choicesRec, candidateRec, candidatesRec}
 use Rattle.candidates.specs.declared.Space.{Space}
 use Rattle.candidates.specs.declared.DrawnEntries.{DrawnEntries}
 use Rattle.candidates.specs.declared.DrawnChoices.{DrawnChoices}
@@ -24,7 +24,7 @@ use Rattle.evolution.specs.Select.{indexCount, indicesOf}
 use Rattle.evolution.specs.Mutant.{entries, mutantEntry, mutantAt, indicesFor, mutantOf, mutated}
 use Rattle.evolution.specs.Cross.{judgedEntry, crossEntry, crossAt, crossed}
 use Rattle.evolution.specs.Trial.{crossWith, trialOf, trialVectors, nextCandidates}
-use Rattle.evolution.specs.Flat.{flatOf, inFlat, inRow, rowRec}
+use Rattle.evolution.specs.Flat.{flatOf, inFlat, inRow}
 use Rattle.evolution.specs.declared.Indices.{Indices}
 use Rattle.evolution.specs.declared.Member.{Member}
 use Rattle.evolution.specs.declared.Setup.{Setup}
@@ -34,6 +34,7 @@ use Rattle.evolution.proofs.Flat.{row-entry, many-same, flat-entry}
 use Rattle.evolution.proofs.Apart.{indices-apart, third-below}
 
 -- ---- an entry of the mutant
+
 module _ (s : DEStrategy) (F x b x1 x2 x3 : Float) where
   pub by-rand1 : s ≡ Rand1 → add binary64 x1 (mul binary64 F (sub binary64 x2 x3)) ≡ mutantEntry s F x b x1 x2 x3
   unfolding mutantEntry

@@ -20,14 +20,15 @@ judgedEntry b v = clampOf v (b .low) (b .high)
 
 -- "Each entry j takes the mutant if j = j*, without a draw, or if a drawn unit is below CR (the paper: at most CR)": v is the mutant's, x the parent's, star j*
 unfoldable pub crossEntry : Float → ℕ → Float → Float → Bounds → ℕ → Gen → Made Float
-crossEntry rate star v x b j g =
+crossEntry CR star v x b j g =
     cond (eqb j star)
     (made (judgedEntry b v) g)
-    (made (judgedEntry b (cond (lt (unitOf (drawOf g .output)) rate) v x)) (drawOf g .after))
+    (made (judgedEntry b (cond (lt (unitOf (drawOf g .output)) CR) v x)) (drawOf g .after))
 
+-- entry j, between its dimension's bounds
 abbrev pub crossAt : Float → ℕ → (ℕ → Float) → (ℕ → Float) → Space → ℕ → Gen → Made Float
-crossAt rate star v x s j = crossEntry rate star (v j) (x j) (getD (s .bounds) j nanBounds) j
+crossAt CR star v x s j = crossEntry CR star (v j) (x j) (getD (s .bounds) j nanBounds) j
 
 -- the n entries of a trial vector in order, of the mutant v and the parent x
 unfoldable pub crossed : Float → ℕ → (ℕ → Float) → (ℕ → Float) → Space → Gen → Made (List Float)
-crossed rate star v x s g = many (crossAt rate star v x s) (s .n) 0 g
+crossed CR star v x s g = many (crossAt CR star v x s) (s .n) 0 g

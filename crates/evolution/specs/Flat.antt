@@ -8,9 +8,11 @@ use Rattle.common.specs.Bounds.{zeroF}
 use Rattle.evolution.specs.Mutant.{entries}
 use Rattle.evolution.specs.declared.Member.{Member}
 
+-- what stands at place k
 abbrev pub flatAt : List Member → ℕ → Float
 flatAt ps k = entries ps (k / 16) (k % 16)
 
+-- of `size` parents; the other places are zeros
 unfoldable pub flatOf : List Member → ℕ → List Float
 flatOf ps size = padTo 2560 zeroF (listed (flatAt ps) (16 * size) 0)
 
@@ -18,9 +20,6 @@ flatOf ps size = padTo 2560 zeroF (listed (flatAt ps) (16 * size) 0)
 abbrev pub inFlat : List Float → ℕ → ℕ → Float
 inFlat rows r j = getD rows (16 * r + j) nan
 
--- a vector in an array of 16 places, and its entry j
+-- entry j of a vector that is in an array
 abbrev pub inRow : List Float → ℕ → Float
 inRow row j = getD row j nan
-
-abbrev pub rowRec : List Float → List Float
-rowRec = padTo 16 zeroF

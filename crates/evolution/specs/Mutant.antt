@@ -1,4 +1,4 @@
--- Step 3: mutation. `x r j` is entry j of the vector of slot r, the paper's x_{r,G}; every operation is one of doubles, rounded once.
+-- Step 3: mutation. `x r j` is entry j of the vector of slot r, the paper's x_r; every operation is one of doubles, rounded once.
 use Prim.Native.Nat.{ℕ}
 use mathlib.Core.List.{List, []}
 use lib.Ieee.{Float, nan, binary64, add, sub, mul}
@@ -17,7 +17,7 @@ use Rattle.evolution.specs.declared.DEStrategy.the-variants.{Rand1, Best
 abbrev pub noMember : Member
 noMember = record { candidate = record { x = []; choices = [] }; value = nan }
 
--- the vectors of the parents
+-- the parents' entries
 abbrev pub entries : List Member → ℕ → ℕ → Float
 entries ps r j = getD (getD ps r noMember .candidate .x) j nan
 
@@ -32,13 +32,14 @@ mutantEntry CurrentToBest1 F x b x1 x2 x3 = add binary64 (add binary64 x (mul bi
 abbrev pub mutantAt : Setup → (ℕ → ℕ → Float) → ℕ → ℕ → Indices → ℕ → Float
 mutantAt S x best i t j = mutantEntry (S .strategy) (S .«mutation_factor») (x i j) (x best j) (x (t .r1) j) (x (t .r2) j) (x (t .r3) j)
 
--- the indices of slot i, of N slots
+-- the indices of slot i, of N slots: as many as the strategy asks for
 abbrev pub indicesFor : Setup → ℕ → ℕ → Gen → Indices
 indicesFor S N i g = indicesOf (indexCount (S .strategy)) N i g
 
--- "Mutation per slot i": the n entries of its mutant, and the generator after the indices
+-- the n entries of the mutant
 unfoldable pub mutantOf : Setup → (ℕ → ℕ → Float) → ℕ → ℕ → ℕ → Indices → List Float
 mutantOf S x best i n t = listed (mutantAt S x best i t) n 0
 
+-- "Mutation per slot i": the indices are drawn, and the mutant is made of the vectors that they name
 unfoldable pub mutated : Setup → (ℕ → ℕ → Float) → ℕ → ℕ → ℕ → ℕ → Gen → Made (List Float)
 mutated S x N best i n g = made (mutantOf S x best i n (indicesFor S N i g)) (indicesFor S N i g .after)

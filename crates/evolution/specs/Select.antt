@@ -35,20 +35,22 @@ indexCount Rand1 = 3
 indexCount Best1 = 2
 indexCount CurrentToBest1 = 2
 
--- the indices of slot i: each is rejected if it is i or one of those before
+-- "rejected if equal to i or already taken": the first index of slot i may not be i, the second neither i nor the first
 abbrev pub firstIndex : ℕ → ℕ → Gen → Made ℕ
 firstIndex N i g = selectIndex N (i ∷ []) g
 
 abbrev pub secondIndex : ℕ → ℕ → Made ℕ → Made ℕ
 secondIndex N i a = selectIndex N (i ∷ a .out ∷ []) (a .after)
 
--- where only two are drawn, slot i stands for the third, which nothing reads
+-- the third none of i, the first and the second; where only two are drawn, slot i stands in its place, which nothing reads
 abbrev pub thirdIndex : ℕ → ℕ → ℕ → Made ℕ → Made ℕ → Made ℕ
 thirdIndex count N i a b = cond (eqb count 3) (selectIndex N (i ∷ a .out ∷ b .out ∷ []) (b .after)) (made i (b .after))
 
+-- together, with the generator after them
 abbrev pub threeOf : Made ℕ → Made ℕ → Made ℕ → Indices
 threeOf a b c = record { r1 = a .out; r2 = b .out; r3 = c .out; after = c .after }
 
+-- the indices of slot i, of N slots
 unfoldable pub indicesOf : ℕ → ℕ → ℕ → Gen → Indices
 indicesOf count N i g =
     let a = firstIndex N i g in

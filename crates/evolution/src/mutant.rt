@@ -2,9 +2,9 @@
 ghost use mathlib.Core.Path.{_≡_};
 ghost use Prim.Native.Nat.{_<_, _≤_, _^_};
 ghost use lib.ListN.{take};
-ghost use Rattle.candidates.specs.Records.{entriesRec};
+ghost use Rattle.candidates.specs.Records.{rowRec, entriesRec};
 ghost use Rattle.evolution.specs.Mutant.{mutantEntry, mutantOf, mutated};
-ghost use Rattle.evolution.specs.Flat.{flatOf, inFlat, rowRec};
+ghost use Rattle.evolution.specs.Flat.{flatOf, inFlat};
 use crate::DEStrategy;
 use crate::Indices;
 use crate::Member;

@@ -7,8 +7,10 @@ use mathlib.Core.List.{List, [], _∷_, List·Memᴰ·head, List·Memᴰ·tail}
 use native.Mathlib.Omega.{arith}
 use lib.Dec.{T, ltb→lt}
 use lib.Ieee.{Float, nan, inf, fin, up, down, lt, le, eq}
-use lib.ListN.{length}
-use Rattle.selection.specs.Best.{bestFrom, bestSlot}
+use lib.ListN.{length, take, length-map}
+use lib.Seq.{length-take-le}
+use Rattle.evolution.specs.declared.Member.{Member}
+use Rattle.selection.specs.Best.{values, bestFrom, bestSlot}
 use Rattle.ledger.specs.Words.{All}
 use Rattle.ledger.specs.Closing.{atMost, bestOf}
 use Rattle.ledger.proofs.Order.{le-trans, le-lt-trans, not-le→lt}
@@ -117,3 +119,8 @@ below-from (w ∷ ws) i v b n h l = go (lt w v) (below-from ws (i + 1) w i n (om
 pub best-below : (vs : List Float) → 1 ≤ length vs → bestSlot vs < length vs
 unfolding bestSlot
 best-below vs h = below-from vs 0 (inf false) 0 (length vs) (omega arith) (omega arith)
+
+pub best-in : (ps : List Member) (n : ℕ) → n ≤ length ps → 1 ≤ n → bestSlot (values (take n ps)) < n
+best-in ps n h l =
+    let k : length (values (take n ps)) ≡ n = length-map (take n ps) _ ∙ length-take-le n ps h in
+    omega (arith, best-below (values (take n ps)) (omega arith))

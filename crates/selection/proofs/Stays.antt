@@ -8,6 +8,7 @@ use mathlib.Core.List.{List, append-nil}
 use lib.Ieee.{Float, le}
 use lib.ListN.{length, getD, set, take}
 use lib.Seq.{length-take-le, take-all, take-suc}
+use Rattle.candidates.specs.Records.{rowRec}
 use Rattle.rng_util.proofs.Parts.{pad-put}
 use Rattle.common.specs.Bounds.{zeroF}
 use Rattle.candidates.specs.declared.Candidate.{Candidate}
@@ -16,7 +17,6 @@ use Rattle.evolution.specs.declared.PopulationSize.{PopulationSize}
 use Rattle.evolution.specs.declared.PopulationSize.the-variants.{Unset, Of}
 use Rattle.selection.specs.Select.{judged, survivorOf}
 use Rattle.selection.specs.Size.{sizeOf}
-use Rattle.selection.specs.Records.{rowRec}
 
 -- one more entry of a row is copied
 pub copy-more : (row xs : List Float) (j : ℕ) (z : Float) → j < length row → j < 16 → xs ≡ rowRec (take j row) → set xs j (getD row j z) ≡ rowRec (take (j + 1) row)

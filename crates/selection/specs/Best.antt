@@ -5,6 +5,7 @@ use mathlib.Core.List.{List, [], _∷_, map}
 use lib.Ieee.{Float, inf, lt}
 use Rattle.evolution.specs.declared.Member.{Member}
 
+-- what the slots hold
 abbrev pub values : List Member → List Float
 values = map (λ (p : Member). p .value)
 

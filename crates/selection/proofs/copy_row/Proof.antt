@@ -5,7 +5,7 @@ use mathlib.Core.Path.{_≡_, refl, ap, _∙_}
 use borrow.Author.Needs.{needs}
 use lib.Seq.{take-all}
 use lib.ListN.{length, take}
-use Rattle.selection.specs.Records.{rowRec}
+use Rattle.candidates.specs.Records.{rowRec}
 use Rattle.selection.proofs.Stays.{copy-more}
 use Rattle.selection.proofs.copy_row.Statement.{statement}
 use Rattle.selection.proofs.copy_row.Tie as tie

@@ -1,0 +1,7 @@
+pub mod PlaceLaws
+pub mod Laws
+pub mod BeginLaws
+pub mod Arrays
+pub mod Refine
+pub mod RefineBegin
+pub mod Meet

@@ -1,0 +1,5 @@
+pub mod When
+pub mod Made
+pub mod Extras
+pub mod Refine
+pub mod Counted

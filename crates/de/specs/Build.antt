@@ -1,0 +1,67 @@
+-- The set-up: "Set-up: F, CR, strategy, perhaps a size, and a seed, which is the generator's first word. Nothing is seeded at random."
+use Prim.Native.Nat.{ℕ}
+use mathlib.Core.Bool.{false}
+use lib.Ieee.{Float, binary64, round}
+use Rattle.distribution.specs.declared.Verdict.{Verdict}
+use Rattle.distribution.specs.declared.Verdict.the-variants as Judged
+use Rattle.evolution.specs.declared.DEStrategy.{DEStrategy}
+use Rattle.evolution.specs.declared.DEStrategy.the-variants.{Rand1}
+use Rattle.evolution.specs.declared.PopulationSize.the-variants.{Unset, Of}
+use Rattle.evolution.specs.declared.Setup.{Setup}
+use Rattle.ledger.specs.State.{fresh}
+use Rattle.kernel.specs.De.{de}
+use Rattle.state.specs.Setup.{setupVerdict}
+use Rattle.state.specs.View.{laid}
+use Rattle.state.specs.declared.State.{State}
+use Rattle.de.specs.declared.build.Built.{Built}
+use Rattle.de.specs.declared.build.Built.the-variants.{Accepted, Refused}
+use Rattle.de.specs.declared.build.DESamplerBuilder.{DESamplerBuilder}
+
+-- ---- the builder: the Rust's options and defaults
+
+-- a decimal literal: the double nearest to n / 10
+abbrev tenths : ℕ → Float
+tenths n = round binary64 false n 10
+
+unfoldable pub defaults : DESamplerBuilder
+unfolding round
+defaults = record { setup = record { «mutation_factor» = tenths 8; «crossover_rate» = tenths 9; strategy = Rand1; «population_size» = Unset; seed = 0 } }
+
+abbrev pub withSize : DESamplerBuilder → ℕ → DESamplerBuilder
+withSize b n =
+    let S = b .setup in
+    record { setup = record { «mutation_factor» = S .«mutation_factor»; «crossover_rate» = S .«crossover_rate»; strategy = S .strategy; «population_size» = Of n; seed = S .seed } }
+
+abbrev pub withFactor : DESamplerBuilder → Float → DESamplerBuilder
+withFactor b F =
+    let S = b .setup in
+    record { setup = record { «mutation_factor» = F; «crossover_rate» = S .«crossover_rate»; strategy = S .strategy; «population_size» = S .«population_size»; seed = S .seed } }
+
+abbrev pub withRate : DESamplerBuilder → Float → DESamplerBuilder
+withRate b CR =
+    let S = b .setup in
+    record { setup = record { «mutation_factor» = S .«mutation_factor»; «crossover_rate» = CR; strategy = S .strategy; «population_size» = S .«population_size»; seed = S .seed } }
+
+abbrev pub withStrategy : DESamplerBuilder → DEStrategy → DESamplerBuilder
+withStrategy b strategy =
+    let S = b .setup in
+    record { setup = record { «mutation_factor» = S .«mutation_factor»; «crossover_rate» = S .«crossover_rate»; strategy = strategy; «population_size» = S .«population_size»; seed = S .seed } }
+
+abbrev pub withSeed : DESamplerBuilder → ℕ → DESamplerBuilder
+withSeed b seed =
+    let S = b .setup in
+    record { setup = record { «mutation_factor» = S .«mutation_factor»; «crossover_rate» = S .«crossover_rate»; strategy = S .strategy; «population_size» = S .«population_size»; seed = seed } }
+
+-- ---- refusals 1, 2, 3: "A set-up refusal hands out no state"
+
+abbrev pub builtBy : Verdict → Setup → Built
+builtBy Judged.Valid S = Accepted S
+builtBy (Judged.Refused r) S = Refused r
+
+unfoldable pub builtOf : DESamplerBuilder → Built
+builtOf b = builtBy (setupVerdict (b .setup)) (b .setup)
+
+-- ---- "Fresh is what an accepted set-up returns"
+
+unfoldable pub freshState : Setup → State
+freshState S = laid S (fresh de S)

@@ -1,0 +1,76 @@
+// The look call: what the closings have made.
+ghost use mathlib.Core.Path.{_≡_};
+ghost use Prim.Native.Nat.{_≤_};
+ghost use Rattle.rng_util.specs.Many.{padTo, listed};
+ghost use Rattle.common.specs.Bounds.{zeroF};
+ghost use Rattle.de.specs.Look.{bare, valueAt, lookOf};
+use distribution::Refusal;
+use evolution::Member;
+use state::State;
+use state::sound::is_sound;
+
+// The best slot, or nothing before the first closing.
+pub enum LookAnswer {
+    Refused(Refusal),
+    Nothing,
+    Best(usize),
+}
+
+// The first n values are those of the slots.
+pub struct Looked {
+    pub look: LookAnswer,
+    pub n: usize,
+    pub values: [f64; 160],
+    pub closed: u32,
+    pub idle: u32,
+}
+
+// An answer without values.
+fn bare_look(look: LookAnswer) -> Looked
+    ensures { λ r. ⌜ r ≡ bare look ⌝ }
+{
+    let values = [0.0f64; 160];
+    Looked {
+        look,
+        n: 0,
+        values,
+        closed: 0,
+        idle: 0,
+    }
+}
+
+// The slots' values, in slot order.
+fn slot_values(parents: [Member; 160], n: usize) -> [f64; 160]
+    requires { ⌜ n ≤ 160 ⌝ }
+    ensures { λ r. ⌜ r ≡ padTo 160 zeroF (listed (valueAt parents) n 0) ⌝ }
+{
+    let mut values = [0.0f64; 160];
+    let mut i: usize = 0;
+    while i < n {
+        values[i] = parents[i].value;
+        i += 1;
+    }
+    values
+}
+
+// Best slot and values, or nothing before the first closing; closed and idle generations.
+pub fn look(state: State) -> Looked
+    ensures { λ r. ⌜ r ≡ lookOf state ⌝ }
+{
+    if is_sound(state) {
+        if state.closed == 0 {
+            return bare_look(LookAnswer::Nothing);
+        }
+        let parents = state.parents;
+        let n = state.n;
+        let values = slot_values(parents, n);
+        return Looked {
+            look: LookAnswer::Best(state.best),
+            n,
+            values,
+            closed: state.closed,
+            idle: state.idle,
+        };
+    }
+    bare_look(LookAnswer::Refused(Refusal::StateNotSound))
+}

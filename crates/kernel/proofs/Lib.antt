@@ -1,0 +1,6 @@
+pub mod Examples
+pub mod Within
+pub mod Fit
+pub mod Random
+pub mod Kernel
+pub mod Link

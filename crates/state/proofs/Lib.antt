@@ -1,0 +1,13 @@
+pub mod Fitting
+pub mod Flags
+pub mod Floats
+pub mod Laid
+pub mod Loops
+pub mod Measured
+pub mod Numbers
+pub mod Parts
+pub mod Setups
+pub mod Sizes
+pub mod Tidy
+pub mod Told
+pub mod Whole
