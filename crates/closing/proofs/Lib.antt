@@ -3,3 +3,4 @@ pub mod Made
 pub mod Extras
 pub mod Refine
 pub mod Counted
+pub mod OnSound

@@ -1,5 +1,4 @@
 -- What the parts of a closing make, put together: the calls' results are the definition's, for N parents and N new candidates stand in their arrays' first places.
--- ---- how many
 use mathlib.Core.Path.{_≡_, sym, ap, _∙_}
 use mathlib.Core.Bool.{Bool, true, false, cond}
 use mathlib.Core.List.{List, [], _∷_}
@@ -30,6 +29,8 @@ use Rattle.state.specs.Blank.{blankTrial}
 use Rattle.state.specs.declared.State.{State}
 use Rattle.closing.specs.Raw.{parentsAfter, idleAfter, settled, startOf, rawParents, rawSlots, rawNexts, rawClose}
 use Rattle.closing.specs.declared.Slots.{Slots}
+
+-- ---- how many
 
 stored-length : (cs : List Candidate) (rs : List Float) → length (stored cs rs) ≡ min (length cs) (length rs)
 unfolding stored
@@ -63,18 +64,19 @@ module _ (k : ℕ) (r ps : List Member) (cs : List Candidate) (rs : List Float) 
   unfolding parentsAfter
   parents-later e h = h ∙ rw (ne-eqb k 0 e)
 
+-- they stand in the first places of their array
+first-members : (n : ℕ) (q xs : List Member) → q ≡ membersRec xs → length xs ≡ n → take n q ≡ xs
+first-members n q xs e l = ap (take n) e ∙ take-at xs (replicate (160 - length xs) blankMember) n l
+
 -- ---- the slots
 
 module _ (closed idle n : ℕ) (ps : List Member) (cs : List Candidate) (rs : List Float) (q : List Member) (l : length (parentsAfter closed (take n ps) (take n cs) (take n rs)) ≡ n)
     (e : q ≡ membersRec (parentsAfter closed (take n ps) (take n cs) (take n rs))) where
-  first-members : take n q ≡ parentsAfter closed (take n ps) (take n cs) (take n rs)
-  first-members = ap (take n) e ∙ take-at (parentsAfter closed (take n ps) (take n cs) (take n rs)) (replicate (160 - length (parentsAfter closed (take n ps) (take n cs) (take n rs))) blankMember) n l
-
   pub slots-are : (x : Bool) (b k i : ℕ) → x ≡ anyReplaced (take n ps) (take n rs) → b ≡ bestSlot (values (take n q)) → k ≡ up closed → i ≡ idleAfter closed idle x
       → record { parents = q; best = b; closed = k; idle = i } ≡ settled closed idle (take n ps) (take n cs) (take n rs)
   unfolding settled
   slots-are x b k i r h u d =
-      let best : b ≡ bestSlot (values (parentsAfter closed (take n ps) (take n cs) (take n rs))) = h ∙ ap (λ (l : List Member). bestSlot (values l)) first-members in
+      let best : b ≡ bestSlot (values (parentsAfter closed (take n ps) (take n cs) (take n rs))) = h ∙ ap (λ (l : List Member). bestSlot (values l)) (first-members n q (parentsAfter closed (take n ps) (take n cs) (take n rs)) e l) in
       let idle : i ≡ idleAfter closed idle (anyReplaced (take n ps) (take n rs)) = d ∙ ap (idleAfter closed idle) r in
       λ j. record { parents = e j; best = best j; closed = u j; idle = idle j }
 
@@ -89,7 +91,7 @@ pick-false b x y e = rw e
 module _ (s : State) (rs : List Float) (o : Slots) (p : o ≡ rawSlots s rs) (l : length (rawParents s rs) ≡ s .n) where
   first-parents : take (s .n) (o .parents) ≡ rawParents s rs
   unfolding settled
-  first-parents = ap (λ (q : Slots). take (s .n) (q .parents)) p ∙ take-at (rawParents s rs) (replicate (160 - length (rawParents s rs)) blankMember) (s .n) l
+  first-parents = first-members (s .n) (o .parents) (rawParents s rs) (ap (λ (q : Slots). q .parents) p) l
 
   best-is : o .best ≡ bestSlot (values (rawParents s rs))
   unfolding settled

@@ -1,5 +1,4 @@
 -- A closing on a state that is laid out is the ledger's closing, laid out. Field by field: the first N places of each array are the plain state's lists.
--- what the ledger's closing gives, laid out: `none` is refusal 11, which leaves the state and the generator as they came
 use mathlib.Core.Path.{_≡_, refl, sym, ap, _∙_}
 use mathlib.Core.Logic.{_≢_}
 use mathlib.Core.Bool.{Bool, true, false, cond}
@@ -39,6 +38,7 @@ use Rattle.closing.specs.declared.Closed.{Closed}
 use Rattle.closing.specs.declared.Slots.{Slots}
 use Rattle.closing.proofs.Extras.{stored-take, selected-take}
 
+-- what the ledger's closing gives, laid out: `none` is refusal 11, which leaves the state and the generator as they came
 abbrev pub laidClosed : Setup → Plain.State de → Option (K.Made ℕ (Plain.State de)) → Closed
 laidClosed S m none = record { ok = false; state = laid S m; after = codeGen (Plain.startGen de m) }
 laidClosed S m (some c) = record { ok = true; state = laid S (c .out); after = codeGen (c .gen) }

@@ -1,5 +1,4 @@
 -- When a generation closes, and the idle count. The loop over what the history has: the flags that are left pass as all of them do.
--- what a negated test says
 use mathlib.Core.Path.{_≡_, refl, sym, _∙_}
 use mathlib.Core.Bool.{Bool, true, false, not}
 use mathlib.Core.List.{List, _∷_}
@@ -12,6 +11,7 @@ use Rattle.ledger.specs.Closing.{up}
 use Rattle.ledger.specs.Words.{all}
 use Rattle.closing.specs.Raw.{isTrue, closesNow, idleAfter}
 
+-- what a negated test says
 not-true : (b : Bool) → not b ≡ true → b ≡ false
 not-true true e = sym e
 not-true false e = refl

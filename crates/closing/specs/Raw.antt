@@ -1,5 +1,4 @@
 -- A closing on the code's own state: its arrays, of which the first n places count. proofs/Refine says that it is the ledger's `close` on the plain state.
--- ---- when
 use Prim.Native.Nat.{ℕ, _≤_}
 use mathlib.Core.Bool.{Bool, true, false, _&&_, cond}
 use mathlib.Core.List.{List}
@@ -26,6 +25,9 @@ use Rattle.state.specs.declared.State.{State}
 use Rattle.closing.specs.declared.Closed.{Closed}
 use Rattle.closing.specs.declared.Slots.{Slots}
 
+-- ---- when it closes
+
+-- a flag is its own test
 abbrev pub isTrue : Bool → Bool
 isTrue b = b
 
@@ -33,6 +35,7 @@ isTrue b = b
 unfoldable pub closesNow : Bool → ℕ → ℕ → List Bool → Bool
 closesNow discovered n trials found = discovered && (leb n trials && all isTrue (take n found))
 
+-- the row, or nothing
 abbrev pub rowIf : Bool → List Float → Option (List Float)
 rowIf true rs = some rs
 rowIf false rs = none
@@ -51,10 +54,11 @@ parentsAfter closed ps cs rs = cond (eqb closed 0) (stored cs rs) (selected ps c
 unfoldable pub idleAfter : ℕ → ℕ → Bool → ℕ
 idleAfter closed idle replaced = cond (eqb closed 0) 0 (cond replaced 0 (up idle))
 
--- the slots then: the best slot is that of the new parents; "Both counters stop at 4,294,967,295"
+-- the slots with these parents: "Best slot: first least, 0 if all are +infinity"
 abbrev pub slotsOf : List Member → ℕ → ℕ → Slots
 slotsOf ps closed idle = record { parents = membersRec ps; best = bestSlot (values ps); closed = closed; idle = idle }
 
+-- the slots after a generation with these candidates has closed with these results; "Both counters stop at 4,294,967,295"
 unfoldable pub settled : ℕ → ℕ → List Member → List Candidate → List Float → Slots
 settled closed idle ps cs rs = slotsOf (parentsAfter closed ps cs rs) (up closed) (idleAfter closed idle (anyReplaced ps rs))
 
@@ -99,6 +103,7 @@ reopened s o cs =
 abbrev pub closedWith : State → Slots → Made (List Candidate) → Closed
 closedWith s o m = cond (anyBad (m .out)) (record { ok = false; state = s; after = startOf s }) (record { ok = true; state = reopened s o (m .out); after = m .after })
 
+-- step 6 on the state s, where the generation closes with the results in rs
 unfoldable pub rawClose : State → List Float → Closed
 rawClose s rs = closedWith s (rawSlots s rs) (rawNexts s (rawParents s rs))
 

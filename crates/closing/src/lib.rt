@@ -1,7 +1,7 @@
 // Step 6: a generation closes (sampler/de.rs, `maybe_update_generation`).
 ghost use mathlib.Core.Path.{_≡_};
 ghost use Prim.Native.Nat.{_≤_};
-ghost use lib.ListN.{length, take};
+ghost use lib.ListN.{take};
 ghost use Rattle.ledger.specs.Closing.{up};
 ghost use Rattle.selection.specs.Records.{membersRec};
 ghost use Rattle.closing.specs.Raw.{closesNow, parentsAfter, idleAfter, settled, Closable, rawClose};
@@ -95,7 +95,6 @@ fn settle(
 ) -> Slots
     requires { ⌜ n ≤ 160 ⌝ }
     ensures { λ r. ⌜ r ≡ settled closed idle (take n parents) (take n candidates) (take n results) ⌝ }
-    ensures { λ r. ⌜ length (parentsAfter closed (take n parents) (take n candidates) (take n results)) ≡ n ⌝ }
 {
     let replaced = selection::any_replaced(parents, results, n);
     let population = new_parents(closed, parents, candidates, results, n);

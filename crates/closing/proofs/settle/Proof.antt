@@ -23,8 +23,8 @@ returns : tie.Need-returns
 returns c =
     let chosen = c .before .before .before in
     let a = chosen .before .before .args in
-    let l = parents-length (a .closed) (a .n) (a .parents) (a .candidates) (a .results) (search needs) (search needs) (search needs) in
-    (slots-are _ _ _ _ _ _ _ l (chosen .new-parents .ensures) _ _ _ _ (chosen .before .any-replaced .ensures) (c .before .before .best-slot .ensures) (c .before .up-one .ensures) (c .new-idle .ensures), l)
+    let many = parents-length (a .closed) (a .n) (a .parents) (a .candidates) (a .results) (search needs) (search needs) (search needs) in
+    slots-are _ _ _ _ _ _ _ many (chosen .new-parents .ensures) _ _ _ _ (chosen .before .any-replaced .ensures) (c .before .before .best-slot .ensures) (c .before .up-one .ensures) (c .new-idle .ensures)
 
 pub settle-spec : {M : Type 1} → statement M
 settle-spec =
