@@ -3,6 +3,7 @@ ghost use mathlib.Core.Path.{_≡_};
 ghost use Prim.Native.Nat.{_≤_, min, max};
 ghost use Rattle.de.specs.Ask.{wantedCount, firstNumbers, leastOf, mostOf, numbersRec, askedOf};
 use history::Gathered;
+use state::State;
 use state::TrialProgress;
 
 // The scan's start, and between which numbers all wanted ones lie.
@@ -96,4 +97,12 @@ pub fn ask(discovered: bool, n: usize, n_trials: usize, trials: [TrialProgress; 
         values,
     };
     Asked { lo, hi, wanted }
+}
+
+// What the next call of a state wants.
+pub fn ask_state(state: State) -> Asked
+    ensures { λ r. ⌜ r ≡ askedOf (firstNumbers (state .trials) (wantedCount (state .discovered) (state .n) (state .«n_trials»))) ⌝ }
+{
+    let trials = state.trials;
+    ask(state.discovered, state.n, state.n_trials, trials)
 }

@@ -12,6 +12,7 @@ ghost use lib.ListN.{take};
 use crate::Answer;
 use crate::Sampled;
 use crate::ask::ask;
+use crate::ask::ask_state;
 use assignment::Accepted;
 use assignment::discovery::discovers;
 use assignment::discovery::finalize_discovery;
@@ -25,7 +26,9 @@ use distribution::ParamValue;
 use distribution::Refusal;
 use distribution::Verdict;
 use distribution::validate::validate;
+use history::CompletedTrial;
 use history::Gathered;
+use history::gather;
 use history::gather_slices;
 use rng_util::Gen;
 use state::State;
@@ -198,5 +201,19 @@ pub fn sample_slices<'a>(
     let q = ask(state.discovered, state.n, state.n_trials, trials);
     let wanted = q.wanted;
     let g = gather_slices(numbers, values, q.lo, q.hi, wanted);
+    sample_gathered(state, distribution, trial, g)
+}
+
+// The sample call over a slice of completed trials.
+pub fn sample(
+    state: State,
+    distribution: Distribution,
+    trial: u64,
+    history: &[CompletedTrial],
+) -> Sampled
+    ensures { λ r. ⌜ r ≡ sampleOf state distribution trial (now (history .entry)) ⌝ }
+{
+    let q = ask_state(state);
+    let g = gather(history, q.lo, q.hi, q.wanted);
     sample_gathered(state, distribution, trial, g)
 }
