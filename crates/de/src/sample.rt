@@ -129,7 +129,7 @@ fn accept(state: State, d: Distribution, trial: u64, closes: bool, results: [f64
 }
 
 // The call, given what its history has.
-pub fn sample_gathered(state: State, d: Distribution, trial: u64, g: Gathered) -> Sampled
+fn sample_gathered(state: State, d: Distribution, trial: u64, g: Gathered) -> Sampled
     requires { ⌜ Numbers state g ⌝ }
     ensures { λ r. ⌜ r ≡ sampledOn state d trial (g .nan) (rowIn state (g .found) (g .values)) ⌝ }
 {
