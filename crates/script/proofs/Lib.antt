@@ -1,0 +1,4 @@
+pub mod Cut
+pub mod Same
+pub mod Line
+pub mod Examples

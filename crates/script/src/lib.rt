@@ -1,0 +1,7 @@
+// The lines of a campaign script: what one line says.
+mod command;
+mod fields;
+mod words;
+
+pub use command::Command;
+pub use command::parse;

@@ -1,0 +1,13 @@
+//! Scripts: exhaustive short ones and random ones around every boundary, the same for the same seed.
+
+pub mod campaign;
+pub mod dice;
+pub mod distributions;
+pub mod exhaustive;
+pub mod malformed;
+pub mod plan;
+pub mod rate;
+pub mod refused;
+pub mod section;
+pub mod stream;
+pub mod values;
