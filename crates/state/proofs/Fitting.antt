@@ -1,38 +1,38 @@
 -- A candidate's test by limits is the definition's by dimensions; and what the limits of dimensions that pass 4 to 7 are.
-use mathlib.Core.Path.{_≡_, refl, sym, ap, ap₂, subst, _∙_}
-use mathlib.Core.Bool.{Bool, true, false, _&&_, cond}
-use mathlib.Core.List.{List, [], _∷_, _++_, map}
 use Prim.Native.Nat.{ℕ, zero, suc, _+_, _-_, _≤_, _<_}
 use native.Mathlib.Omega.{arith}
 use native.Mathlib.Nat.{not-suc-le-zero, le-of-suc-le-suc, le-refl}
-use borrow.Author.Tests.{lt-ltb, le-ltb, eq-eqb, ne-eqb}
+use mathlib.Core.Path.{_≡_, refl, sym, ap, ap₂, _∙_}
+use mathlib.Core.Bool.{Bool, true, false, _&&_, cond}
+use mathlib.Core.List.{List, [], _∷_, _++_, map}
+use borrow.Author.Tests.{le-ltb, ne-eqb}
 use lib.Dec.{eqb, ltb}
 use lib.Ieee.{Float, nan, inf, fin}
 use lib.ListN.{length, getD, take, drop, replicate, length-map}
+use lib.Seq.{take-take}
 use Rattle.rng_util.specs.Many.{padTo, listed}
 use Rattle.distribution.specs.Validate.{isFinite, verdictOf, refusalOf, judged}
 use Rattle.distribution.specs.declared.Distribution.{Distribution}
 use Rattle.distribution.specs.declared.Verdict.{Verdict}
 use Rattle.distribution.specs.declared.Verdict.the-variants.{Valid, Refused}
-use Rattle.state.specs.Setup.{isValid}
 use Rattle.distribution.specs.declared.DimensionInfo.{DimensionInfo}
-use Rattle.candidates.specs.Space.{continuousDims, continuousCount, FewChoices}
 use Rattle.distribution.specs.Dims.{choicesOf, noDim}
+use Rattle.distribution.specs.declared.Ci.{Ci}
+use Rattle.candidates.specs.Space.{continuousDims, continuousCount, FewChoices}
 use Rattle.candidates.specs.declared.Candidate.{Candidate}
 use Rattle.candidates.specs.Candidate.{continuousPlace}
-use Rattle.distribution.specs.declared.Ci.{Ci}
-use lib.Seq.{take-take}
 use Rattle.candidates.proofs.Lists.{listed-map}
 use Rattle.candidates.proofs.Passed.{few-continuous, count-fits}
-use Rattle.ledger.specs.Words.{isNone, all}
-use Rattle.kernel.specs.Fits.{isZero, entriesFit, choiceLimit, choicesFit, fits}
 use Rattle.evolution.specs.declared.Member.{Member}
+use Rattle.ledger.specs.Words.{isNone, all}
 use Rattle.ledger.specs.Soundness.{isNumber}
+use Rattle.kernel.specs.Fits.{isZero, entriesFit, choiceLimit, choicesFit, fits}
+use Rattle.state.specs.Setup.{isValid}
 use Rattle.state.specs.Blank.{isBlankCandidate, isBlankMember}
 use Rattle.state.specs.Places.{placesFit, memberFits, limitsOf, choicesBelow}
+use Rattle.state.specs.declared.places.Limits.{Limits}
 use Rattle.state.proofs.Flags.{both-places, true-and, and-true}
 use Rattle.state.proofs.Loops.{and-assoc, and-yes}
-use Rattle.state.specs.declared.places.Limits.{Limits}
 use Rattle.state.proofs.Measured.{Sized}
 
 entries-are : (n : ℕ) (xs : List Float) → n ≤ length xs → placesFit isFinite isZero n xs ≡ entriesFit n xs

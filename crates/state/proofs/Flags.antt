@@ -1,9 +1,9 @@
 -- Truth values: a place by whether it is in use, tests that all pass, and two tests that pass together.
+use Prim.Native.Nat.{ℕ, zero, suc}
 use mathlib.Core.Path.{_≡_, refl, sym, ap, ap₂, _∙_}
 use mathlib.Core.Bool.{Bool, true, false, not, _&&_, cond, true≢false}
 use mathlib.Core.List.{List, [], _∷_}
-use mathlib.Core.Option.{Option, some}
-use Prim.Native.Nat.{ℕ, zero, suc}
+use mathlib.Core.Option.{some}
 use lib.ListN.{getElem?}
 use Rattle.ledger.specs.Words.{every}
 use Rattle.ledger.proofs.Lists.{none≢some, some-inj}

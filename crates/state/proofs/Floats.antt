@@ -1,7 +1,7 @@
 -- Tests of one double: which one is a number, which is plus zero, and that the code's tests say so.
+use Prim.Native.Nat.{zero, suc, _*_}
 use mathlib.Core.Path.{_≡_, refl, sym, ap, subst, _∙_}
-use mathlib.Core.Bool.{Bool, true, false, not, _&&_, Bool·beq, true≢false}
-use Prim.Native.Nat.{ℕ, zero, suc, _*_}
+use mathlib.Core.Bool.{Bool, true, false, not, Bool·beq, true≢false}
 use borrow.Author.Tests.{eq-eqb, eqb-true}
 use lib.Dec.{T, eqb}
 use lib.IntN.{pos, negsuc}

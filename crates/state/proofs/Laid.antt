@@ -1,13 +1,13 @@
 -- A plain state that is sound comes back from its layout, which is a sound state again.
-use mathlib.Core.Path.{_≡_, refl, sym, ap, _∙_}
-use mathlib.Core.Bool.{Bool, true, false, _&&_, _||_, cond, true≢false}
-use mathlib.Core.List.{List, [], _∷_, _++_, map}
-use mathlib.Core.Option.{Option, none, some}
 use Prim.Native.Nat.{ℕ, zero, suc, _-_, _≤_, max}
 use native.Mathlib.Omega.{arith}
 use native.Mathlib.Nat.{not-suc-le-zero, le-of-suc-le-suc, le-refl}
+use mathlib.Core.Path.{_≡_, refl, sym, ap, _∙_}
+use mathlib.Core.Bool.{Bool, true, false, _||_, cond}
+use mathlib.Core.List.{List, [], _∷_, _++_, map}
+use mathlib.Core.Option.{Option, none, some}
 use borrow.Author.Tests.{le-leb, eqb-true, eqb-false}
-use lib.Dec.{eqb, leb}
+use lib.Dec.{eqb}
 use lib.Ieee.{ofBits, ofFields, odd}
 use lib.Count.{trailingZeros}
 use lib.ListN.{length, take, drop, replicate, length-map}
@@ -21,15 +21,15 @@ use Rattle.selection.specs.Records.{blankMember}
 use Rattle.ledger.specs.Words.{all}
 use Rattle.ledger.specs.Kernel.{Laws}
 use Rattle.ledger.specs.State as Plain
-use Rattle.ledger.specs.Soundness.{Discovering, Running, Sound, soundTest}
+use Rattle.ledger.specs.Soundness.{Sound, soundTest}
 use Rattle.ledger.proofs.Lists.{T→true}
 use Rattle.ledger.proofs.SoundTest.{sound-test}
 use Rattle.kernel.specs.De.{de, memberOf}
-use Rattle.kernel.specs.Fits.{isZero, entriesFit, choicesFit, fits}
+use Rattle.kernel.specs.Fits.{entriesFit, choicesFit, fits}
 use Rattle.state.specs.Blank.{blankDim, blankTrial, isBlankDim, isBlankTrial, isBlankCandidate, isBlankMember}
 use Rattle.state.specs.Setup.{setupVerdict, isValid}
 use Rattle.state.specs.View.{trialOf, progressOf, parentOf, firstIn, firstOf, sizeIn, hasSize, sizeNumber, candidateCount, parentCount, view, laid}
-use Rattle.state.specs.Sound.{cleanTests, cleanTest, soundState}
+use Rattle.state.specs.Sound.{cleanTest, soundState}
 use Rattle.state.proofs.Flags.{and-true}
 use Rattle.state.proofs.Sizes.{size-few}
 

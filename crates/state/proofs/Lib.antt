@@ -1,3 +1,4 @@
+pub mod Exactly
 pub mod Fitting
 pub mod Flags
 pub mod Floats

@@ -1,25 +1,24 @@
 -- What the types of a state's fields say: how long its arrays are, and how large its counters. A function knows it of each State that it is handed.
-use mathlib.Core.Path.{_≡_, sym, _∙_}
-use mathlib.Core.List.{List, [], _∷_, map, List·Memᴰ, List·Memᴰ·head, List·Memᴰ·tail}
-use mathlib.Core.Path.{subst}
 use Prim.Native.Nat.{ℕ, _≤_}
 use native.Mathlib.Omega.{arith}
+use mathlib.Core.Path.{_≡_, sym, _∙_, subst}
+use mathlib.Core.List.{List, [], _∷_, map, List·Memᴰ·head, List·Memᴰ·tail}
 use lib.ListN.{length, length-map}
 use mir.Val.{Val}
 use denote.Laws.{Is}
 use denote.Array.{Array, each}
 use denote.Shadow.{shadow}
 use denote.Struct.Field.{Field, f64-field, u16-field}
-use Rattle.ledger.specs.Words.{All}
-use Rattle.ledger.specs.State.{cap}
+use Rattle.distribution.proofs.DimensionInfo as D
 use Rattle.candidates.proofs.Candidate as C
 use Rattle.candidates.specs.declared.Candidate.{Candidate}
-use Rattle.distribution.proofs.DimensionInfo as D
 use Rattle.evolution.proofs.Member as M
 use Rattle.evolution.specs.declared.Member.{Member}
+use Rattle.ledger.specs.Words.{All}
+use Rattle.ledger.specs.State.{cap}
+use Rattle.state.specs.declared.State.{State}
 use Rattle.state.proofs.State as S
 use Rattle.state.proofs.TrialProgress as T
-use Rattle.state.specs.declared.State.{State}
 
 -- a candidate's two arrays
 pub record Sized (c : Candidate) : Type 0 where

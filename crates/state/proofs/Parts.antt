@@ -1,37 +1,28 @@
 -- The parts that the code tests pass exactly where the definition's test does: a state is sound where all of them pass.
-use mathlib.Core.Path.{_≡_, refl, sym, ap, subst, _∙_}
-use mathlib.Core.Bool.{Bool, true, false, _&&_, _||_, cond, Bool·beq, true≢false}
-use mathlib.Core.List.{List, [], _∷_, map}
-use mathlib.Core.Option.{Option, none, some}
-use Prim.Native.Nat.{ℕ, suc, _+_, _≤_, max}
+use Prim.Native.Nat.{ℕ, suc, _≤_}
 use native.Mathlib.Omega.{arith}
-use borrow.Author.Tests.{le-leb, leb-true, eq-eqb, eqb-true}
-use lib.Dec.{eqb, leb}
-use lib.ListN.{length, take, drop, length-map, length-take}
-use lib.Seq.{length-take-le}
-use Rattle.candidates.specs.Space.{continuousCount}
-use Rattle.candidates.proofs.Passed.{few-continuous}
+use mathlib.Core.Path.{_≡_, refl, sym, ap, _∙_}
+use mathlib.Core.Bool.{Bool, true, false, _&&_, true≢false}
+use mathlib.Core.List.{List, [], _∷_, map}
+use lib.Dec.{eqb}
+use lib.ListN.{length, take, drop}
 use Rattle.distribution.specs.declared.DimensionInfo.{DimensionInfo}
+use Rattle.candidates.specs.Space.{continuousCount}
+use Rattle.candidates.specs.declared.Candidate.{Candidate}
 use Rattle.evolution.specs.declared.Member.{Member}
-use Rattle.selection.specs.Size.{sizeOf}
-use Rattle.ledger.specs.Words.{isSome, all, every, isEmpty, differing}
+use Rattle.ledger.specs.Words.{all, isEmpty, differing}
 use Rattle.ledger.specs.Kernel.{Parent}
 use Rattle.ledger.specs.State as Plain
 use Rattle.ledger.specs.Closing.{bestOf}
-use Rattle.ledger.specs.Soundness.{isNumber, discoveringTests, runningTests, phaseTest, soundTests, soundTest}
-use Rattle.candidates.specs.declared.Candidate.{Candidate}
+use Rattle.ledger.specs.Soundness.{isNumber}
 use Rattle.kernel.specs.De.{de}
 use Rattle.kernel.specs.Fits.{fits}
 use Rattle.state.specs.Blank.{isBlankDim, isBlankTrial, isBlankCandidate, isBlankMember}
-use Rattle.state.specs.Setup.{setupVerdict, isValid}
-use Rattle.state.specs.View.{trialOf, parentOf, firstIn, sizeIn, candidateCount, parentCount, view}
-use Rattle.state.specs.Places.{placesFit, passes, nextFits, memberFits, numbersOf, discoveringCounts, runningCounts, countsSound, countsOf}
-use Rattle.state.specs.Sound.{cleanTests, cleanTest, soundState}
+use Rattle.state.specs.View.{trialOf, parentOf, candidateCount, parentCount}
+use Rattle.state.specs.Places.{placesFit, passes, nextFits, memberFits, numbersOf, countsSound, countsOf}
 use Rattle.state.specs.declared.State.{State}
 use Rattle.state.specs.declared.TrialProgress.{TrialProgress}
-use Rattle.state.proofs.Flags.{true-and, and-true, bool-ext, every-at}
-use Rattle.state.proofs.Measured.{Measured}
-use Rattle.state.proofs.Sizes.{size-few}
+use Rattle.state.proofs.Flags.{true-and, and-true}
 
 -- the dimensions in use
 abbrev pub dimsOf : State → List DimensionInfo

@@ -1,16 +1,15 @@
 -- Document 01's small inputs of refusals 1 to 3, and the limits on both sides: all by computation.
+use Prim.Native.Nat.{ℕ}
 use mathlib.Core.Path.{_≡_, refl}
 use mathlib.Core.List.{[], _∷_, map}
 use mathlib.Core.Option.{Option, none, some}
-use Prim.Native.Nat.{ℕ}
-use lib.Ieee.{Float, nan, inf, neg, lt, isNan}
 use mathlib.Core.Bool.{true, false}
+use lib.Ieee.{Float, nan, inf, neg, lt, isNan}
 use Rattle.distribution.specs.Validate.{refusalOf}
 use Rattle.distribution.proofs.Examples.{dec, next}
 use Rattle.evolution.specs.declared.DEStrategy.the-variants.{Best1}
 use Rattle.evolution.specs.declared.PopulationSize.{PopulationSize as UserSize}
 use Rattle.evolution.specs.declared.PopulationSize.the-variants.{Unset, Of}
-use Rattle.evolution.specs.declared.Setup.{Setup}
 use Rattle.state.specs.Setup.{setupVerdict}
 
 -- the refusal of a set-up of F, CR and a size, by its number

@@ -1,14 +1,14 @@
 -- N is 160 at most where the set-up passes 3 and there are at most 16 continuous dimensions.
-use mathlib.Core.Path.{_≡_, refl, sym}
-use mathlib.Core.Bool.{Bool, true, false, true≢false}
 use Prim.Native.Nat.{ℕ, _≤_}
 use native.Mathlib.Omega.{arith}
+use mathlib.Core.Path.{_≡_, refl, sym}
+use mathlib.Core.Bool.{Bool, true, false, true≢false}
 use borrow.Author.Tests.{ltb-false}
 use Rattle.distribution.specs.Validate.{refusedIf}
 use Rattle.distribution.specs.declared.Refusal.{Refusal}
 use Rattle.distribution.specs.declared.Refusal.the-variants.{MutationFactor, CrossoverRate, PopulationSize}
 use Rattle.distribution.specs.declared.Verdict.{Verdict}
-use Rattle.distribution.specs.declared.Verdict.the-variants.{Valid, Refused}
+use Rattle.distribution.specs.declared.Verdict.the-variants.{Valid}
 use Rattle.evolution.specs.declared.PopulationSize.{PopulationSize as UserSize}
 use Rattle.evolution.specs.declared.PopulationSize.the-variants.{Unset, Of}
 use Rattle.evolution.specs.declared.Setup.{Setup}

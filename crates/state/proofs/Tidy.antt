@@ -1,19 +1,18 @@
 -- A state that passes the test is its view laid out, and its view is sound.
-use mathlib.Core.Path.{_≡_, refl, sym, ap, subst, _∙_}
-use mathlib.Core.Bool.{Bool, true, false, _&&_, _||_, cond, true≢false}
-use mathlib.Core.List.{List, [], _∷_, _++_, map, List·Memᴰ·head, List·Memᴰ·tail}
 use Prim.Native.Nat.{ℕ, zero, suc, _-_, _≤_}
 use native.Mathlib.Omega.{arith}
+use mathlib.Core.Path.{_≡_, refl, sym, ap, subst, _∙_}
+use mathlib.Core.Bool.{Bool, true, false, _||_, true≢false}
+use mathlib.Core.List.{List, [], _∷_, _++_, map, List·Memᴰ·head, List·Memᴰ·tail}
 use borrow.Author.Tests.{eqb-true}
 use lib.Dec.{T, eqb}
-use lib.Ieee.{Float}
 use lib.ListN.{length, take, drop, replicate, take-append-drop, length-map, length-drop}
 use lib.Seq.{length-take-le}
 use Rattle.rng_util.specs.Many.{padTo}
-use Rattle.common.specs.Bounds.{zeroF}
 use Rattle.distribution.specs.declared.DimensionInfo.{DimensionInfo}
 use Rattle.distribution.specs.declared.Distribution.{Distribution}
 use Rattle.distribution.specs.declared.Distribution.the-variants.{Float as FloatD, Int as IntD, Categorical}
+use Rattle.common.specs.Bounds.{zeroF}
 use Rattle.candidates.specs.Candidate.{blankCandidate}
 use Rattle.candidates.specs.Space.{continuousDims}
 use Rattle.candidates.specs.declared.Candidate.{Candidate}
@@ -37,7 +36,6 @@ use Rattle.state.proofs.Flags.{true-and}
 use Rattle.state.proofs.Floats.{zero-true}
 use Rattle.state.proofs.Laid.{back}
 use Rattle.state.proofs.Measured.{Sized, Measured}
-use Rattle.state.proofs.Parts.{Parts}
 use Rattle.state.proofs.Whole.{Few, Clean, clean-of, of-sound, few-of, few-candidates, few-parents}
 
 -- ---- what passes a test of blankness is blank

@@ -1,16 +1,16 @@
 -- What each step of the soundness test tells: dimensions that pass have few choices, N is in bounds, the best slot of parents that pass is the first least.
-use mathlib.Core.Path.{_≡_, refl, sym, ap, subst, _∙_}
-use mathlib.Core.Logic.{_≢_}
-use mathlib.Core.Bool.{Bool, true, false, not, _&&_, cond, true≢false}
-use mathlib.Core.List.{List, [], _∷_, map, List·Memᴰ·head, List·Memᴰ·tail}
-use mathlib.Core.Option.{Option, none, some}
 use Prim.Native.Nat.{ℕ, zero, suc, _≤_, _<_}
 use native.Mathlib.Omega.{arith}
 use native.Mathlib.Nat.{not-suc-le-zero, le-of-suc-le-suc}
+use mathlib.Core.Path.{_≡_, refl, sym, ap, subst, _∙_}
+use mathlib.Core.Logic.{_≢_}
+use mathlib.Core.Bool.{Bool, true, false, not, true≢false}
+use mathlib.Core.List.{List, [], _∷_, map, List·Memᴰ·head, List·Memᴰ·tail}
+use mathlib.Core.Option.{Option, none, some}
 use lib.Dec.{eqb}
 use lib.Ieee.{Float, nan, inf, fin}
 use lib.ListN.{length, getD, take, length-take}
-use Rattle.distribution.specs.Dims.{continuous, choices, choicesOf, noDim}
+use Rattle.distribution.specs.Dims.{choices, choicesOf, noDim}
 use Rattle.distribution.specs.Good.{Good}
 use Rattle.distribution.specs.Validate.{judged}
 use Rattle.distribution.specs.declared.DimensionInfo.{DimensionInfo}
@@ -25,7 +25,7 @@ use Rattle.evolution.specs.declared.Setup.{Setup}
 use Rattle.selection.specs.Best.{values, bestSlot}
 use Rattle.selection.specs.Size.{sizeOf}
 use Rattle.selection.proofs.Best.{Numbers, best-is}
-use Rattle.ledger.specs.Words.{isSome, isNone, All, all}
+use Rattle.ledger.specs.Words.{isSome, isNone, all}
 use Rattle.ledger.specs.State as Plain
 use Rattle.ledger.specs.Closing.{bestOf}
 use Rattle.ledger.specs.Soundness.{isNumber}

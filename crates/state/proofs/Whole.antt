@@ -1,10 +1,10 @@
 -- A state is sound exactly where all parts pass: clause by clause, the definition's test of the view against the code's of counts and arrays.
-use mathlib.Core.Path.{_≡_, refl, sym, ap, subst, _∙_}
-use mathlib.Core.Bool.{Bool, true, false, _&&_, _||_, cond, Bool·beq, true≢false}
-use mathlib.Core.List.{List, [], _∷_, map}
-use mathlib.Core.Option.{Option, none, some}
 use Prim.Native.Nat.{ℕ, _+_, _≤_, max}
 use native.Mathlib.Omega.{arith}
+use mathlib.Core.Path.{_≡_, refl, sym, ap, _∙_}
+use mathlib.Core.Bool.{Bool, true, false, _||_, cond, Bool·beq, true≢false}
+use mathlib.Core.List.{List, [], map}
+use mathlib.Core.Option.{none, some}
 use borrow.Author.Tests.{le-leb, leb-true, eq-eqb, eqb-true}
 use lib.Dec.{eqb, leb}
 use lib.ListN.{length, take, drop, length-map, length-take}
@@ -23,7 +23,7 @@ use Rattle.kernel.specs.Fits.{fits}
 use Rattle.state.specs.Blank.{isBlankDim, isBlankTrial, isBlankCandidate, isBlankMember}
 use Rattle.state.specs.Setup.{setupVerdict, isValid}
 use Rattle.state.specs.View.{trialOf, parentOf, firstIn, sizeIn, candidateCount, parentCount, view}
-use Rattle.state.specs.Places.{placesFit, passes, nextFits, memberFits, numbersOf, discoveringCounts, runningCounts, countsSound, countsOf}
+use Rattle.state.specs.Places.{passes, nextFits, memberFits, discoveringCounts, runningCounts, countsSound, countsOf}
 use Rattle.state.specs.Sound.{cleanTests, cleanTest, soundState}
 use Rattle.state.specs.declared.State.{State}
 use Rattle.state.proofs.Flags.{true-and, and-true, bool-ext, every-at, five, all-five}

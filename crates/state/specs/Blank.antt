@@ -1,5 +1,4 @@
 -- Unused places: "unused places are as in a fresh state".
-use Prim.Native.Nat.{ℕ}
 use mathlib.Core.Bool.{Bool, false, _&&_}
 use mathlib.Core.List.{[]}
 use lib.Dec.{eqb}

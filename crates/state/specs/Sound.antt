@@ -1,6 +1,5 @@
 -- Refusal 0: when a state of the code is sound. Its view is judged by the ledger's test; what only the code's state has, the set-up and the unused
 -- places of its arrays, is judged here.
-use Prim.Native.Nat.{ℕ}
 use mathlib.Core.Bool.{Bool, _&&_, _||_}
 use mathlib.Core.List.{List, [], _∷_}
 use lib.Dec.{leb, eqb}

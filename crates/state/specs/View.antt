@@ -1,7 +1,7 @@
 -- The code's state as a plain state of demand 2's definition, and a plain state laid out in the code's arrays.
 use Prim.Native.Nat.{ℕ, max}
 use mathlib.Core.Bool.{Bool, true, false, cond}
-use mathlib.Core.List.{List, map}
+use mathlib.Core.List.{map}
 use mathlib.Core.Option.{Option, none, some}
 use lib.Dec.{eqb}
 use lib.ListN.{length, take}

@@ -1,13 +1,12 @@
-use lib.ListN.{length, drop}
+-- `is_increasing` meets its contract: what is left decides, one number less with each turn.
 use Prim.Native.Nat.{_≤_, _-_}
+use native.Mathlib.Omega.{arith}
 use mathlib.Core.Path.{_≡_, refl, sym, _∙_}
+use lib.ListN.{length, drop}
 use Rattle.state.specs.Places.{increasing}
 use Rattle.state.proofs.Numbers.{rise-yes, rise-no, rise-end}
-use native.Mathlib.Omega.{arith}
 use Rattle.state.proofs.lists.is_increasing.Statement.{statement}
 use Rattle.state.proofs.lists.is_increasing.Tie as tie
-use Rattle.state.proofs.lists.is_increasing.Reads as reads
-use Rattle.state.proofs.lists.is_increasing.Lts as lts
 
 abbrev Inv-loop : tie.InvT-loop
 Inv-loop numbers i₀ i = (i ≤ length numbers) × (increasing numbers ≡ increasing (drop i numbers))
@@ -15,51 +14,39 @@ Inv-loop numbers i₀ i = (i ≤ length numbers) × (increasing numbers ≡ incr
 abbrev μ-loop : tie.MeasureT-loop
 μ-loop numbers i₀ i = length numbers - i
 
--- src/lists.rt:28:5
 loop-holds : tie.Need-loop-holds Inv-loop μ-loop
 loop-holds c = (omega arith, refl)
 
--- src/lists.rt:28:11
 add-loop : tie.Need-add-loop Inv-loop μ-loop
 add-loop c = omega arith
 
--- src/lists.rt:29:12
 mul-if1 : tie.Need-mul-if1 Inv-loop μ-loop
 mul-if1 c = omega arith
 
--- src/lists.rt:29:12
 shared-slice-read-if1 : tie.Need-shared-slice-read-if1 Inv-loop μ-loop
 shared-slice-read-if1 c = omega arith
 
--- src/lists.rt:29:33
 add-if1 : tie.Need-add-if1 Inv-loop μ-loop
 add-if1 c = omega arith
 
--- src/lists.rt:29:25
 mul-if1-2 : tie.Need-mul-if1-2 Inv-loop μ-loop
 mul-if1-2 c = omega arith
 
--- src/lists.rt:29:25
 shared-slice-read-if1-2 : tie.Need-shared-slice-read-if1-2 Inv-loop μ-loop
 shared-slice-read-if1-2 c = omega arith
 
--- src/lists.rt:30:13
 add-i : tie.Need-add-i Inv-loop μ-loop
 add-i c = omega arith
 
--- src/lists.rt:28:5
 loop-less : tie.Need-loop-less Inv-loop μ-loop
 loop-less c = omega arith
 
--- src/lists.rt:28:5
 loop-again : tie.Need-loop-again Inv-loop μ-loop
 loop-again c = (omega arith, c .before .before .before .before .loop .inv .1 ∙ rise-yes (c .before .before .before .before .before .args .numbers .now) (c .before .before .before .before .loop .i) (omega arith) (c .if1 .taken))
 
--- src/lists.rt:32:13
 returns : tie.Need-returns Inv-loop μ-loop
 returns c = sym (c .before .before .before .before .loop .inv .1 ∙ rise-no (c .before .before .before .before .before .args .numbers .now) (c .before .before .before .before .loop .i) (omega arith) (c .if1 .left))
 
--- src/lists.rt:24:1
 returns-2 : tie.Need-returns-2 Inv-loop μ-loop
 returns-2 c = sym (c .before .loop .inv .1 ∙ rise-end (c .before .before .args .numbers .now) (c .before .loop .i) (omega arith))
 

@@ -1,14 +1,13 @@
+-- `trial_numbers` meets its contract: `Fill` with the number at each place.
 use Prim.Native.Nat.{_≤_, _-_}
+use native.Mathlib.Omega.{arith}
 use mathlib.Core.Path.{_∙_, refl}
+use borrow.Author.Needs.{needs}
+use Rattle.candidates.proofs.Fill.{Fill, fill-first, fill-again, fill-last}
 use Rattle.state.specs.Places.{numberAt}
 use Rattle.state.proofs.Numbers.{numberIn, read-out}
-use Rattle.candidates.proofs.Fill.{Fill, fill-first, fill-again, fill-last}
-use borrow.Author.Needs.{needs}
-use native.Mathlib.Omega.{arith}
 use Rattle.state.proofs.lists.trial_numbers.Statement.{statement}
 use Rattle.state.proofs.lists.trial_numbers.Tie as tie
-use Rattle.state.proofs.lists.trial_numbers.Reads as reads
-use Rattle.state.proofs.lists.trial_numbers.Lts as lts
 
 abbrev Inv-loop : tie.InvT-loop
 Inv-loop trials numbers₀ i₀ numbers i = (i ≤ 224) × Fill 224 0 (numberIn trials) 224 numbers i
@@ -16,39 +15,30 @@ Inv-loop trials numbers₀ i₀ numbers i = (i ≤ 224) × Fill 224 0 (numberIn 
 abbrev μ-loop : tie.MeasureT-loop
 μ-loop trials numbers₀ i₀ numbers i = 224 - i
 
--- src/lists.rt:16:5
 loop-holds : tie.Need-loop-holds Inv-loop μ-loop
 loop-holds c = (omega arith, fill-first 224 0 _ 224)
 
--- src/lists.rt:17:22
 mul-numbers : tie.Need-mul-numbers Inv-loop μ-loop
 mul-numbers c = omega arith
 
--- src/lists.rt:17:22
 element-copy-out-numbers : tie.Need-element-copy-out-numbers Inv-loop μ-loop
 element-copy-out-numbers c = omega arith
 
--- src/lists.rt:17:9
 mul-numbers-2 : tie.Need-mul-numbers-2 Inv-loop μ-loop
 mul-numbers-2 c = omega arith
 
--- src/lists.rt:17:9
 array-write-numbers : tie.Need-array-write-numbers Inv-loop μ-loop
 array-write-numbers c = omega arith
 
--- src/lists.rt:18:9
 add-i : tie.Need-add-i Inv-loop μ-loop
 add-i c = omega arith
 
--- src/lists.rt:16:5
 loop-less : tie.Need-loop-less Inv-loop μ-loop
 loop-less c = omega arith
 
--- src/lists.rt:16:5
 loop-again : tie.Need-loop-again Inv-loop μ-loop
 loop-again c = (omega arith, fill-again 224 0 (numberIn (c .before .before .args .t1)) 224 _ (c .before .loop .i) _ (omega arith) (omega arith) refl (c .before .loop .inv .1))
 
--- src/lists.rt:11:1
 returns : tie.Need-returns Inv-loop μ-loop
 returns c = fill-last 224 0 (numberIn (c .before .before .args .t1)) 224 _ _ (omega arith) (c .before .loop .inv .1) ∙ read-out numberAt (c .before .before .args .t1) _ 224 (search needs)
 

@@ -1,17 +1,15 @@
-use Rattle.distribution.specs.Validate.{isFinite}
+-- `all_finite` meets its contract: a sweep, `sweep-turn` with each entry.
 use Prim.Native.Nat.{_-_}
+use native.Mathlib.Omega.{arith}
 use mathlib.Core.Bool.{_&&_}
 use mathlib.Core.Path.{_≡_, refl, sym, _∙_}
+use borrow.Author.Needs.{needs}
 use lib.ListN.{drop}
+use Rattle.distribution.specs.Validate.{isFinite}
 use Rattle.ledger.specs.Words.{all}
 use Rattle.state.proofs.Loops.{sweep-turn, sweep-end}
-use borrow.Author.Needs.{needs}
-use native.Mathlib.Omega.{arith}
 use Rattle.state.proofs.places.all_finite.Statement.{statement}
 use Rattle.state.proofs.places.all_finite.Tie as tie
-use Rattle.state.proofs.places.all_finite.Reads as reads
-use Rattle.state.proofs.places.all_finite.Lts as lts
-use Rattle.distribution.proofs.validate.is_finite.Reads as is-finite-reads
 
 abbrev Inv-loop : tie.InvT-loop
 Inv-loop x fit₀ j₀ fit j = all isFinite x ≡ (fit && all isFinite (drop j x))
@@ -19,35 +17,27 @@ Inv-loop x fit₀ j₀ fit j = all isFinite x ≡ (fit && all isFinite (drop j x
 abbrev μ-loop : tie.MeasureT-loop
 μ-loop x fit₀ j₀ fit j = 16 - j
 
--- src/places.rt:53:5
 loop-holds : tie.Need-loop-holds Inv-loop μ-loop
 loop-holds c = refl
 
--- src/places.rt:54:31
 mul-is-finite : tie.Need-mul-is-finite Inv-loop μ-loop
 mul-is-finite c = omega arith
 
--- src/places.rt:54:31
 array-read-is-finite : tie.Need-array-read-is-finite Inv-loop μ-loop
 array-read-is-finite c = omega arith
 
--- src/places.rt:54:21
 is-finite-requires : tie.Need-is-finite-requires Inv-loop μ-loop
 is-finite-requires c κs = search needs
 
--- src/places.rt:55:9
 add-j : tie.Need-add-j Inv-loop μ-loop
 add-j c = omega arith
 
--- src/places.rt:53:5
 loop-less : tie.Need-loop-less Inv-loop μ-loop
 loop-less c = omega arith
 
--- src/places.rt:53:5
 loop-again : tie.Need-loop-again Inv-loop μ-loop
 loop-again c = c .before .before .loop .inv ∙ sweep-turn isFinite (c .before .before .before .args .t1) (c .before .before .loop .j) _ (c .before .before .loop .fit) _ (search needs) (c .is-finite .ensures)
 
--- src/places.rt:48:1
 returns : tie.Need-returns Inv-loop μ-loop
 returns c = sym (c .before .loop .inv ∙ sweep-end isFinite (c .before .before .args .t1) (c .before .loop .j) _ (search needs))
 

@@ -1,14 +1,12 @@
+-- `choice_limits` meets its contract: `Fill` with the limit of each dimension.
 use Prim.Native.Nat.{_≤_, _-_}
-use mathlib.Core.Path.{_∙_}
-use Rattle.state.proofs.Fitting.{limitAt, limit-few, limits-are}
-use Rattle.candidates.proofs.Fill.{Fill, fill-first, fill-again, fill-last}
-use borrow.Author.Needs.{needs}
 use native.Mathlib.Omega.{arith}
+use mathlib.Core.Path.{_∙_}
+use borrow.Author.Needs.{needs}
+use Rattle.candidates.proofs.Fill.{Fill, fill-first, fill-again, fill-last}
+use Rattle.state.proofs.Fitting.{limitAt, limit-few, limits-are}
 use Rattle.state.proofs.places.choice_limits.Statement.{statement}
 use Rattle.state.proofs.places.choice_limits.Tie as tie
-use Rattle.state.proofs.places.choice_limits.Reads as reads
-use Rattle.state.proofs.places.choice_limits.Lts as lts
-use Rattle.state.proofs.places.choice_limit.Reads as choice-limit-reads
 
 abbrev Inv-loop : tie.InvT-loop
 Inv-loop n-dims dims limits₀ k₀ limits k = (k ≤ n-dims) × Fill 16 1 (limitAt dims) n-dims limits k
@@ -16,43 +14,33 @@ Inv-loop n-dims dims limits₀ k₀ limits k = (k ≤ n-dims) × Fill 16 1 (limi
 abbrev μ-loop : tie.MeasureT-loop
 μ-loop n-dims dims limits₀ k₀ limits k = n-dims - k
 
--- src/places.rt:233:5
 loop-holds : tie.Need-loop-holds Inv-loop μ-loop
 loop-holds c = (omega arith, fill-first 16 1 _ _)
 
--- src/places.rt:234:17
 mul-d : tie.Need-mul-d Inv-loop μ-loop
 mul-d c = omega arith
 
--- src/places.rt:234:17
 array-copy-out-d : tie.Need-array-copy-out-d Inv-loop μ-loop
 array-copy-out-d c = omega arith
 
--- src/places.rt:235:21
 choice-limit-requires : tie.Need-choice-limit-requires Inv-loop μ-loop
 choice-limit-requires c κs = limit-few (c .before .before .before .args .t1) (c .before .before .before .args .n-dims) (c .before .before .loop .k) (c .before .before .before .pre .1) (search needs) (omega arith)
 
--- src/places.rt:235:9
 mul-limits : tie.Need-mul-limits Inv-loop μ-loop
 mul-limits c = omega arith
 
--- src/places.rt:235:9
 array-write-limits : tie.Need-array-write-limits Inv-loop μ-loop
 array-write-limits c = omega arith
 
--- src/places.rt:236:9
 add-k : tie.Need-add-k Inv-loop μ-loop
 add-k c = omega arith
 
--- src/places.rt:233:5
 loop-less : tie.Need-loop-less Inv-loop μ-loop
 loop-less c = omega arith
 
--- src/places.rt:233:5
 loop-again : tie.Need-loop-again Inv-loop μ-loop
 loop-again c = (omega arith, fill-again 16 1 (limitAt (c .before .before .before .before .args .t1)) (c .before .before .before .before .args .n-dims) _ (c .before .before .before .loop .k) _ (omega arith) (omega arith) (c .choice-limit .ensures) (c .before .before .before .loop .inv .1))
 
--- src/places.rt:227:1
 returns : tie.Need-returns Inv-loop μ-loop
 returns c = fill-last 16 1 (limitAt (c .before .before .args .t1)) (c .before .before .args .n-dims) _ _ (omega arith) (c .before .loop .inv .1) ∙ limits-are (c .before .before .args .t1) (c .before .before .args .n-dims) (search needs)
 

@@ -1,15 +1,14 @@
+-- `choices_fit` meets its contract: a sweep over choices and limits together.
 use Prim.Native.Nat.{_-_}
+use native.Mathlib.Omega.{arith}
 use mathlib.Core.Bool.{_&&_}
 use mathlib.Core.Path.{_≡_, refl, sym, _∙_}
+use borrow.Author.Needs.{needs}
 use lib.ListN.{drop}
 use Rattle.state.specs.Places.{choicesBelow}
 use Rattle.state.proofs.Loops.{below-turn, below-end}
-use borrow.Author.Needs.{needs}
-use native.Mathlib.Omega.{arith}
 use Rattle.state.proofs.places.choices_fit.Statement.{statement}
 use Rattle.state.proofs.places.choices_fit.Tie as tie
-use Rattle.state.proofs.places.choices_fit.Reads as reads
-use Rattle.state.proofs.places.choices_fit.Lts as lts
 
 abbrev Inv-loop : tie.InvT-loop
 Inv-loop choices limits fit₀ k₀ fit k = choicesBelow choices limits ≡ (fit && choicesBelow (drop k choices) (drop k limits))
@@ -17,39 +16,30 @@ Inv-loop choices limits fit₀ k₀ fit k = choicesBelow choices limits ≡ (fit
 abbrev μ-loop : tie.MeasureT-loop
 μ-loop choices limits fit₀ k₀ fit k = 16 - k
 
--- src/places.rt:89:5
 loop-holds : tie.Need-loop-holds Inv-loop μ-loop
 loop-holds c = refl
 
--- src/places.rt:90:22
 mul-fit : tie.Need-mul-fit Inv-loop μ-loop
 mul-fit c = omega arith
 
--- src/places.rt:90:22
 array-read-fit : tie.Need-array-read-fit Inv-loop μ-loop
 array-read-fit c = omega arith
 
--- src/places.rt:90:35
 mul-fit-2 : tie.Need-mul-fit-2 Inv-loop μ-loop
 mul-fit-2 c = omega arith
 
--- src/places.rt:90:35
 array-read-fit-2 : tie.Need-array-read-fit-2 Inv-loop μ-loop
 array-read-fit-2 c = omega arith
 
--- src/places.rt:91:9
 add-k : tie.Need-add-k Inv-loop μ-loop
 add-k c = omega arith
 
--- src/places.rt:89:5
 loop-less : tie.Need-loop-less Inv-loop μ-loop
 loop-less c = omega arith
 
--- src/places.rt:89:5
 loop-again : tie.Need-loop-again Inv-loop μ-loop
 loop-again c = c .before .loop .inv ∙ below-turn (c .before .before .args .t1) (c .before .before .args .t2) (c .before .loop .k) (c .before .loop .fit) (search needs) (search needs)
 
--- src/places.rt:84:1
 returns : tie.Need-returns Inv-loop μ-loop
 returns c = sym (c .before .loop .inv ∙ below-end (c .before .before .args .t1) (c .before .before .args .t2) (c .before .loop .k) _ (search needs))
 

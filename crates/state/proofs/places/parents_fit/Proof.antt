@@ -1,19 +1,16 @@
-use lib.ListN.{length}
-use Prim.Native.Nat.{_≤_}
+-- `parents_fit` meets its contract: place by place, and what is left decides (`Rest`).
+use Prim.Native.Nat.{_≤_, _-_}
+use native.Mathlib.Omega.{arith}
 use mathlib.Core.List.{List}
-use Rattle.distribution.specs.declared.DimensionInfo.{DimensionInfo}
-use Prim.Native.Nat.{_-_}
 use mathlib.Core.Path.{_≡_, sym, _∙_}
+use borrow.Author.Needs.{needs}
+use lib.ListN.{length}
+use Rattle.distribution.specs.declared.DimensionInfo.{DimensionInfo}
 use Rattle.state.specs.Blank.{isBlankMember}
 use Rattle.state.specs.Places.{placesFit, limitsOf, memberFits}
 use Rattle.state.proofs.Loops.{Rest, rest-start, rest-end, rest-yes, rest-no}
-use borrow.Author.Needs.{needs}
-use native.Mathlib.Omega.{arith}
 use Rattle.state.proofs.places.parents_fit.Statement.{statement}
 use Rattle.state.proofs.places.parents_fit.Tie as tie
-use Rattle.state.proofs.places.parents_fit.Reads as reads
-use Rattle.state.proofs.places.parents_fit.Lts as lts
-use Rattle.state.proofs.places.member_place.Reads as member-place-reads
 
 abbrev Inv-loop : tie.InvT-loop
 Inv-loop count limits parents i₀ i = (ds : List DimensionInfo) → length ds ≤ 16 → limits ≡ limitsOf ds → placesFit (memberFits ds) isBlankMember count parents ≡ Rest (memberFits ds) isBlankMember count parents i
@@ -21,39 +18,30 @@ Inv-loop count limits parents i₀ i = (ds : List DimensionInfo) → length ds �
 abbrev μ-loop : tie.MeasureT-loop
 μ-loop count limits parents i₀ i = 160 - i
 
--- src/places.rt:139:5
 loop-holds : tie.Need-loop-holds Inv-loop μ-loop
 loop-holds c = λ ds few e. rest-start (memberFits ds) isBlankMember _ _
 
--- src/places.rt:140:17
 mul-m : tie.Need-mul-m Inv-loop μ-loop
 mul-m c = omega arith
 
--- src/places.rt:140:17
 array-copy-out-m : tie.Need-array-copy-out-m Inv-loop μ-loop
 array-copy-out-m c = omega arith
 
--- src/places.rt:141:12
 member-place-requires : tie.Need-member-place-requires Inv-loop μ-loop
 member-place-requires c κs = search needs
 
--- src/places.rt:142:13
 add-i : tie.Need-add-i Inv-loop μ-loop
 add-i c = omega arith
 
--- src/places.rt:139:5
 loop-less : tie.Need-loop-less Inv-loop μ-loop
 loop-less c = omega arith
 
--- src/places.rt:139:5
 loop-again : tie.Need-loop-again Inv-loop μ-loop
 loop-again c = λ ds few e. c .before .before .before .before .loop .inv ds few e ∙ rest-yes (memberFits ds) isBlankMember _ _ _ _ _ (search needs) (c .before .member-place .ensures ds few e) (c .if1 .taken)
 
--- src/places.rt:144:13
 returns : tie.Need-returns Inv-loop μ-loop
 returns c = λ ds few e. sym (c .before .before .before .before .loop .inv ds few e ∙ rest-no (memberFits ds) isBlankMember _ _ _ _ _ (search needs) (c .before .member-place .ensures ds few e) (c .if1 .left))
 
--- src/places.rt:135:1
 returns-2 : tie.Need-returns-2 Inv-loop μ-loop
 returns-2 c = λ ds few e. sym (c .before .loop .inv ds few e ∙ rest-end (memberFits ds) isBlankMember _ _ _ (search needs))
 

@@ -1,16 +1,12 @@
+-- `trial_place` meets its contract: by whether the place is in use.
 use mathlib.Core.Path.{refl}
 use Rattle.state.proofs.Flags.{if-used, if-unused}
-use native.Mathlib.Omega.{arith}
 use Rattle.state.proofs.places.trial_place.Statement.{statement}
 use Rattle.state.proofs.places.trial_place.Tie as tie
-use Rattle.state.proofs.places.trial_place.Reads as reads
-use Rattle.state.proofs.places.trial_place.Lts as lts
 
--- src/places.rt:191:9
 returns : tie.Need-returns
 returns c = if-used _ (c .before .if1 .taken) refl
 
--- src/places.rt:187:1
 returns-2 : tie.Need-returns-2
 returns-2 c = if-unused _ (c .before .before .if1 .left) refl
 

@@ -1,16 +1,14 @@
+-- `zeros_from` meets its contract: what is left decides, one entry less with each turn.
 use Prim.Native.Nat.{_-_}
+use native.Mathlib.Omega.{arith}
 use mathlib.Core.Path.{_≡_, refl, sym, _∙_}
+use borrow.Author.Needs.{needs}
 use lib.ListN.{drop}
 use Rattle.ledger.specs.Words.{all}
 use Rattle.kernel.specs.Fits.{isZero}
 use Rattle.state.proofs.Loops.{all-yes, all-no, all-end}
-use borrow.Author.Needs.{needs}
-use native.Mathlib.Omega.{arith}
 use Rattle.state.proofs.places.zeros_from.Statement.{statement}
 use Rattle.state.proofs.places.zeros_from.Tie as tie
-use Rattle.state.proofs.places.zeros_from.Reads as reads
-use Rattle.state.proofs.places.zeros_from.Lts as lts
-use Rattle.state.proofs.places.is_zero.Reads as is-zero-reads
 
 abbrev Inv-loop : tie.InvT-loop
 Inv-loop n x j₀ j = all isZero (drop n x) ≡ all isZero (drop j x)
@@ -18,39 +16,30 @@ Inv-loop n x j₀ j = all isZero (drop n x) ≡ all isZero (drop j x)
 abbrev μ-loop : tie.MeasureT-loop
 μ-loop n x j₀ j = 16 - j
 
--- src/places.rt:101:5
 loop-holds : tie.Need-loop-holds Inv-loop μ-loop
 loop-holds c = refl
 
--- src/places.rt:102:20
 mul-is-zero : tie.Need-mul-is-zero Inv-loop μ-loop
 mul-is-zero c = omega arith
 
--- src/places.rt:102:20
 array-read-is-zero : tie.Need-array-read-is-zero Inv-loop μ-loop
 array-read-is-zero c = omega arith
 
--- src/places.rt:102:12
 is-zero-requires : tie.Need-is-zero-requires Inv-loop μ-loop
 is-zero-requires c κs = search needs
 
--- src/places.rt:103:13
 add-j : tie.Need-add-j Inv-loop μ-loop
 add-j c = omega arith
 
--- src/places.rt:101:5
 loop-less : tie.Need-loop-less Inv-loop μ-loop
 loop-less c = omega arith
 
--- src/places.rt:101:5
 loop-again : tie.Need-loop-again Inv-loop μ-loop
 loop-again c = c .before .before .before .loop .inv ∙ all-yes isZero (c .before .before .before .before .args .t1) (c .before .before .before .loop .j) _ _ (search needs) (c .before .is-zero .ensures) (c .if1 .taken)
 
--- src/places.rt:105:13
 returns : tie.Need-returns Inv-loop μ-loop
 returns c = sym (c .before .before .before .loop .inv ∙ all-no isZero (c .before .before .before .before .args .t1) (c .before .before .before .loop .j) _ _ (search needs) (c .before .is-zero .ensures) (c .if1 .left))
 
--- src/places.rt:97:1
 returns-2 : tie.Need-returns-2 Inv-loop μ-loop
 returns-2 c = sym (c .before .loop .inv ∙ all-end isZero (c .before .before .args .t1) (c .before .loop .j) (search needs))
 

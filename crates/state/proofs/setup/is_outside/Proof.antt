@@ -1,17 +1,14 @@
 -- `is_outside` meets its contract: test by test.
 use mathlib.Core.Path.{_≡_, _∙_}
-use mathlib.Core.Bool.{_||_}
+use mathlib.Core.Bool.{_||_, false}
 use mathlib.Core.Logic.{⊎-elim}
 use lib.Ieee.{isNan, lt, fin, ofBits, ofFields, odd}
 use lib.IntN.{pos}
 use lib.Count.{trailingZeros}
-use mathlib.Core.Bool.{false}
 use Rattle.distribution.proofs.Flags.{or-first, or-rest}
 use Rattle.state.proofs.Floats.{ne-self}
 use Rattle.state.proofs.setup.is_outside.Statement.{statement}
 use Rattle.state.proofs.setup.is_outside.Tie as tie
-use Rattle.state.proofs.setup.is_outside.Reads as reads
-use Rattle.state.proofs.setup.is_outside.Lts as lts
 
 -- the first two tests together
 two : (c : tie.Joined1) → c .if1 .if2 ≡ isNan (c .before .args .v) || lt (c .before .args .v) (fin false 0 (pos 0))

@@ -1,5 +1,5 @@
 -- `size_fails` meets its contract: an unset size fails nothing; one that is set, by the comparison.
-use mathlib.Core.Path.{sym, ap, _∙_}
+use mathlib.Core.Path.{sym, ap}
 use borrow.Author.Needs.{needs}
 use Rattle.state.specs.Setup.{sizeFails}
 use Rattle.state.proofs.setup.size_fails.Statement.{statement}

@@ -3,14 +3,10 @@ use mathlib.Core.Path.{refl}
 use borrow.Author.Needs.{needs}
 use lib.Ieee.{ofBits, ofFields, odd}
 use lib.Count.{trailingZeros}
-use Rattle.state.specs.Setup.{setupVerdict}
 use Rattle.distribution.proofs.Flags.{row-applies, row-passes}
+use Rattle.state.specs.Setup.{setupVerdict}
 use Rattle.state.proofs.setup.validate_setup.Statement.{statement}
 use Rattle.state.proofs.setup.validate_setup.Tie as tie
-use Rattle.state.proofs.setup.validate_setup.Reads as reads
-use Rattle.state.proofs.setup.validate_setup.Lts as lts
-use Rattle.state.proofs.setup.is_outside.Reads as is-outside-reads
-use Rattle.state.proofs.setup.size_fails.Reads as size-fails-reads
 
 is-outside-requires : tie.Need-is-outside-requires
 is-outside-requires c κs = search needs

@@ -1,20 +1,16 @@
-use Rattle.state.proofs.Flags.{if-used}
+-- `candidate_count` meets its contract: the larger of two counts, after discovery.
 use native.Mathlib.Omega.{arith}
 use borrow.Author.Needs.{needs}
+use Rattle.state.proofs.Flags.{if-used}
 use Rattle.state.proofs.sound.candidate_count.Statement.{statement}
 use Rattle.state.proofs.sound.candidate_count.Tie as tie
-use Rattle.state.proofs.sound.candidate_count.Reads as reads
-use Rattle.state.proofs.sound.candidate_count.Lts as lts
 
--- src/sound.rt:55:13
 returns : tie.Need-returns
 returns c = if-used _ (c .before .if1 .taken) (omega arith)
 
--- src/sound.rt:57:9
 returns-2 : tie.Need-returns-2
 returns-2 c = if-used _ (c .before .if1 .taken) (omega arith)
 
--- src/sound.rt:50:1
 returns-3 : tie.Need-returns-3
 returns-3 c = search needs
 

@@ -1,54 +1,35 @@
-use mathlib.Core.Path.{sym, ap, _∙_}
-use Rattle.state.proofs.Sizes.{size-few}
-use Rattle.state.proofs.Told.{counts-invalid, size-fits, counts-running, counts-discovering}
-use native.Mathlib.Omega.{arith}
+-- `counts_sound` meets its contract: the set-up first, which bounds N, then the counts by whether discovery has ended.
 use borrow.Author.Needs.{needs}
+use Rattle.state.proofs.Told.{counts-invalid, size-fits, counts-running, counts-discovering}
 use Rattle.state.proofs.sound.counts_sound.Statement.{statement}
 use Rattle.state.proofs.sound.counts_sound.Tie as tie
-use Rattle.state.proofs.sound.counts_sound.Reads as reads
-use Rattle.state.proofs.sound.counts_sound.Lts as lts
-use Rattle.selection.proofs.population_size.Reads as population-size-reads
-use Rattle.state.proofs.setup.is_valid.Reads as is-valid-reads
-use Rattle.state.proofs.setup.validate_setup.Reads as validate-setup-reads
-use Rattle.state.proofs.sound.discovering_counts.Reads as discovering-counts-reads
-use Rattle.state.proofs.sound.is_named.Reads as is-named-reads
-use Rattle.state.proofs.sound.running_counts.Reads as running-counts-reads
 
--- src/sound.rt:93:18
 validate-setup-requires : tie.Need-validate-setup-requires
 validate-setup-requires c κs = search needs
 
--- src/sound.rt:93:9
 is-valid-requires : tie.Need-is-valid-requires
 is-valid-requires c κs = search needs
 
--- src/sound.rt:94:9
 returns : tie.Need-returns
 returns c = counts-invalid (c .before .before .before .args .setup) _ _ _ _ _ _ (c .before .before .validate-setup .ensures) (c .before .is-valid .ensures) (c .if1 .taken)
 
--- src/sound.rt:96:9
 is-named-requires : tie.Need-is-named-requires
 is-named-requires c κs = search needs
 
--- src/sound.rt:99:13
 population-size-requires : tie.Need-population-size-requires
 population-size-requires c κs = search needs
 
--- src/sound.rt:100:9
 running-counts-requires : tie.Need-running-counts-requires
 running-counts-requires c κs =
     let b = c .before .before .before .before in
     size-fits (b .before .before .args .setup) _ _ (b .before .validate-setup .ensures) (b .is-valid .ensures) (c .before .before .before .if1 .left) (b .before .before .args .n-continuous) _ (search needs) (c .population-size .ensures)
 
--- src/sound.rt:100:9
 returns-2 : tie.Need-returns-2
 returns-2 c = counts-running (c .before .before .before .before .before .before .before .args .setup) _ _ _ _ _ _ (c .before .before .before .before .before .before .validate-setup .ensures) (c .before .before .before .before .before .is-valid .ensures) (c .before .before .before .before .if1 .left) _ (c .before .before .before .is-named .ensures) _ (c .before .before .if2 .taken) _ (c .before .population-size .ensures) (c .running-counts .ensures)
 
--- src/sound.rt:102:5
 discovering-counts-requires : tie.Need-discovering-counts-requires
 discovering-counts-requires c κs = search needs
 
--- src/sound.rt:83:1
 returns-3 : tie.Need-returns-3
 returns-3 c = counts-discovering (c .before .before .before .before .before .before .args .setup) _ _ _ _ _ _ (c .before .before .before .before .before .validate-setup .ensures) (c .before .before .before .before .is-valid .ensures) (c .before .before .before .if1 .left) _ (c .before .before .is-named .ensures) _ (c .before .if2 .left) (c .discovering-counts .ensures)
 

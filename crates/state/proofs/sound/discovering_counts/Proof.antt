@@ -1,12 +1,9 @@
+-- `discovering_counts` meets its contract: it is the definition, test by test.
 use mathlib.Core.Path.{refl}
 use Rattle.state.specs.Places.{discoveringCounts}
-use native.Mathlib.Omega.{arith}
 use Rattle.state.proofs.sound.discovering_counts.Statement.{statement}
 use Rattle.state.proofs.sound.discovering_counts.Tie as tie
-use Rattle.state.proofs.sound.discovering_counts.Reads as reads
-use Rattle.state.proofs.sound.discovering_counts.Lts as lts
 
--- src/sound.rt:33:1
 returns : tie.Need-returns
 unfolding discoveringCounts
 returns c = refl

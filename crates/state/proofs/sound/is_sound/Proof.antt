@@ -1,12 +1,12 @@
 -- `is_sound` meets its contract: a part that fails refutes soundness (`refuted`), and where the others pass the last one decides (`settled`).
+use Prim.Native.Nat.{_≤_}
+use native.Mathlib.Omega.{arith}
 use mathlib.Core.Path.{_≡_, sym, _∙_}
 use mathlib.Core.Bool.{true}
 use borrow.Author.Needs.{needs}
 use borrow.Author.Tests.{le-leb, lt-leb}
 use lib.Dec.{leb}
-use Prim.Native.Nat.{_≤_}
 use lib.ListN.{take}
-use native.Mathlib.Omega.{arith}
 use Rattle.ledger.specs.Words.{differing}
 use Rattle.kernel.specs.Fits.{fits}
 use Rattle.state.specs.Blank.{isBlankDim, isBlankTrial, isBlankCandidate, isBlankMember}

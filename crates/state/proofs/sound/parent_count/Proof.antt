@@ -1,17 +1,13 @@
+-- `parent_count` meets its contract: by whether a generation has closed.
 use mathlib.Core.Path.{refl}
 use borrow.Author.Tests.{eq-eqb, ne-eqb}
 use Rattle.state.proofs.Flags.{if-used, if-unused}
-use native.Mathlib.Omega.{arith}
 use Rattle.state.proofs.sound.parent_count.Statement.{statement}
 use Rattle.state.proofs.sound.parent_count.Tie as tie
-use Rattle.state.proofs.sound.parent_count.Reads as reads
-use Rattle.state.proofs.sound.parent_count.Lts as lts
 
--- src/sound.rt:67:9
 returns : tie.Need-returns
 returns c = if-used _ (eq-eqb _ _ (c .if1 .taken)) refl
 
--- src/sound.rt:63:1
 returns-2 : tie.Need-returns-2
 returns-2 c = if-unused _ (ne-eqb _ _ (c .if1 .left)) refl
 

@@ -1,17 +1,13 @@
+-- `running_counts` meets its contract: it is the definition, test by test.
 use mathlib.Core.Path.{refl}
-use Rattle.state.specs.Places.{runningCounts}
-use native.Mathlib.Omega.{arith}
 use borrow.Author.Needs.{needs}
+use Rattle.state.specs.Places.{runningCounts}
 use Rattle.state.proofs.sound.running_counts.Statement.{statement}
 use Rattle.state.proofs.sound.running_counts.Tie as tie
-use Rattle.state.proofs.sound.running_counts.Reads as reads
-use Rattle.state.proofs.sound.running_counts.Lts as lts
 
--- src/sound.rt:45:29
 add-few : tie.Need-add-few
 add-few c = search needs
 
--- src/sound.rt:41:1
 returns : tie.Need-returns
 unfolding runningCounts
 returns c = refl
