@@ -16,28 +16,28 @@ use Rattle.evolution.specs.declared.Setup.{Setup}
 use Rattle.ledger.specs.Words.{orElse, refuseIf, isNone, has}
 use Rattle.ledger.specs.Call.{Call, callRefusal, anyBad}
 use Rattle.ledger.specs.State as Plain
-use Rattle.ledger.specs.State.{refused, given, Result, fresh, refuse}
+use Rattle.ledger.specs.State.{refused, given, Result, fresh}
 use Rattle.ledger.specs.Assignment.{Accepted}
 use Rattle.ledger.specs.Soundness.{Sound, soundTest}
 use Rattle.ledger.specs.Sample.{discovers, step, sample, outcome, stateRefusal, accept}
 use Rattle.ledger.specs.Closing.{counted}
-use Rattle.ledger.specs.Sampler.{Sampler, viewed, Meets}
+use Rattle.ledger.specs.Sampler.{Sampler, definition, viewed, returnsFrom, Meets}
 use Rattle.ledger.specs.Claim.{Demand3}
-use Rattle.ledger.proofs.Lists.{true→T}
 use Rattle.ledger.proofs.Sound.{step-sound, fresh-sound}
+use Rattle.ledger.proofs.Lists.{T→true}
 use Rattle.ledger.proofs.SoundTest.{sound-test}
-use Rattle.ledger.proofs.Theorem.{program-demand3}
+use Rattle.ledger.proofs.Theorem.{program-demand3, program-answers}
 use Rattle.kernel.specs.De.{de}
 use Rattle.kernel.proofs.Kernel.{de-laws}
 use Rattle.state.specs.Setup.{setupVerdict, isValid}
 use Rattle.state.specs.Sound.{soundState}
 use Rattle.state.specs.View.{view, laid}
 use Rattle.state.specs.declared.State.{State}
+use Rattle.state.proofs.Laid.{view-laid, laid-sound}
 use Rattle.de.specs.Answer.{answerOf, plainAnswer, refusalNumbered}
 use Rattle.de.specs.Build.{freshState}
 use Rattle.de.specs.Program.{ran, program}
 use Rattle.de.specs.Sample.{sampleOf, callOf, laidResult, unsound}
-use Rattle.de.proofs.Laid.{Clean, view-laid, sound-clean, laid-clean}
 
 -- a refusal that the code's enum has
 abbrev Numbered : Option ℕ → Type 0
@@ -86,46 +86,48 @@ numbered m (some r) a k t e = λ i. record { answer = refused (k i); draws = 0; 
 numbered m none none k t e = λ i. record { answer = refused 11; draws = 0; state = e i }
 numbered m none (some a) k t e = λ i. record { answer = given (a .setting); draws = a .draws; state = e i }
 
--- ---- one call from a clean state: the definition's result, as it is where refusal 0 is given, and laid out otherwise
+-- ---- the code meets the definition
+
+-- what holds of the fresh state and of each state that a call on such a state returns: the view is sound, and unused places are as in a fresh state
+record Clean (S : Setup) (s : State) : Type 0 where
+  pub sound : Sound de S (view s)
+  pub unused : s ≡ laid S (view s)
+
 module _ (S : Setup) (ok : isValid (setupVerdict S) ≡ true) where
-  data Came (s : State) (c : Call de) : Type 0 where
-    no : sampleOf s (c .distribution .distribution) (c .number) (c .history) ≡ unsound s → sample de S (view s) c ≡ refuse de 0 (view s) → Came s c
-    yes : Sound de S (view s) → sampleOf s (c .distribution .distribution) (c .number) (c .history) ≡ laidResult S (step de S (view s) c) → sample de S (view s) c ≡ step de S (view s) c → Came s c
+  -- a sound plain state, laid out
+  laid-clean : (m : Plain.State de) → Sound de S m → Clean S (laid S m)
+  laid-clean m v = record { sound = subst (Sound de S) (sym (view-laid S m v)) v; unused = ap (laid S) (sym (view-laid S m v)) }
 
-  came : (s : State) (c : Call de) → Clean S s → Came s c
-  unfolding sampleOf sample laid
-  came s c e = go (soundTest de S (view s)) refl
-    where
-      q : s .setup ≡ S
-      q = sym (ap (λ (t : State). t .setup) (e .is))
+  -- refusal 0 is not for a clean state, so a call on it is the definition's step, laid out
+  stepped : (s : State) (c : Call de) → Clean S s → sampleOf s (c .distribution .distribution) (c .number) (c .history) ≡ laidResult S (step de S (view s) c)
+  unfolding sampleOf laid
+  stepped s c e =
+      let q : s .setup ≡ S = ap (λ (t : State). t .setup) (e .unused) in
+      let fine : soundState s ≡ true = ap soundState (e .unused) ∙ laid-sound S (view s) (e .sound) ok de-laws in
+      rw (fine, q)
 
-      go : (b : Bool) → soundTest de S (view s) ≡ b → Came s c
-      go true x = yes (sound-test de de-laws S (view s) .0 (true→T _ x)) (rw (sound-clean S s ok e ∙ x, q)) (rw x)
-      go false x = no (rw (sound-clean S s ok e ∙ x)) (rw x)
+  defined : (s : State) (c : Call de) → Clean S s → sample de S (view s) c ≡ step de S (view s) c
+  unfolding sample
+  defined s c e = rw (T→true (soundTest de S (view s)) (sound-test de de-laws S (view s) .1 (e .sound)))
 
   call-view : (s : State) (c : Call de) → Clean S s → viewed de (program S) (ran s c) ≡ sample de S (view s) c
   unfolding step
-  call-view s c e = go (came s c e)
-    where
-      go : Came s c → viewed de (program S) (ran s c) ≡ sample de S (view s) c
-      go (no x y) = rw (x, y)
-      go (yes v x y) = rw (x, y) (numbered (view s) (orElse (callRefusal de c) (stateRefusal de (view s .size) (view s) c)) (accept de S (view s .size) (view s) c) (all-numbered (view s) c) _ (view-laid S ((step de S (view s) c) .state) (step-sound de de-laws S (view s) c v)))
+  call-view s c e =
+      rw (stepped s c e, defined s c e)
+      (numbered (view s) (orElse (callRefusal de c) (stateRefusal de (view s .size) (view s) c)) (accept de S (view s .size) (view s) c) (all-numbered (view s) c) _
+      (view-laid S ((step de S (view s) c) .state) (step-sound de de-laws S (view s) c (e .sound))))
 
   call-clean : (s : State) (c : Call de) → Clean S s → Clean S ((ran s c) .state)
-  call-clean s c e = go (came s c e)
-    where
-      go : Came s c → Clean S ((ran s c) .state)
-      go (no x y) = rw x e
-      go (yes v x y) = rw x (laid-clean S ((step de S (view s) c) .state) ok (step-sound de de-laws S (view s) c v))
+  call-clean s c e = rw (stepped s c e) (laid-clean ((step de S (view s) c) .state) (step-sound de de-laws S (view s) c (e .sound)))
 
   meets : Meets de (program S) S
   unfolding freshState
   meets =
       record {
         Clean = Clean S;
-        new-clean = laid-clean S (fresh de S) ok (fresh-sound de de-laws S);
+        new-clean = laid-clean (fresh de S) (fresh-sound de de-laws S);
         call-clean = call-clean;
-        view-whole = λ x y a b e. sym (a .is) ∙ (ap (laid S) e ∙ b .is);
+        view-whole = λ x y a b e. a .unused ∙ (ap (laid S) e ∙ sym (b .unused));
         new-view = view-laid S (fresh de S) (fresh-sound de de-laws S);
         call-view = call-view;
       }
@@ -133,3 +135,7 @@ module _ (S : Setup) (ok : isValid (setupVerdict S) ≡ true) where
   -- THE THEOREM
   pub de-demand3 : (cs : List (Call de)) → Demand3 de (program S) S cs
   de-demand3 cs = program-demand3 de de-laws (program S) S meets cs
+
+  -- and over every list the code returns what the definition returns: answers, draws and states
+  pub de-answers : (cs : List (Call de)) → returnsFrom de (program S) (freshState S) cs ≡ returnsFrom de (definition de S) (fresh de S) cs
+  de-answers cs = program-answers de de-laws (program S) S meets cs

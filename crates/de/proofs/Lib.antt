@@ -2,7 +2,6 @@ pub mod On
 pub mod Asking
 pub mod Gather
 pub mod Whole
-pub mod Laid
 pub mod Demand
 pub mod Accepting
 pub mod Sampling
