@@ -3,7 +3,7 @@ ghost use mathlib.Core.Path.{_≡_};
 ghost use Prim.Native.Nat.{min, _≤_, _^_};
 ghost use lib.IntN.{pos, natAbs, _+ℤ_, _*ℤ_};
 ghost use lib.Signed.{_≤ℤ_, _<ℤ_};
-ghost use Rattle.distribution.specs.Validate.{verdictOf, intBoundFails};
+ghost use Rattle.distribution.specs.Validate.{verdictOf};
 ghost use Rattle.rounding.specs.Round.{wholeZ};
 ghost use Rattle.common.specs.Places.{placeOf, atPlace, lastPlace};
 ghost use Rattle.common.specs.FromInternal.{clampZ, fromInt};
@@ -13,9 +13,6 @@ use distribution::Distribution;
 use distribution::IntDistribution;
 use distribution::IntStep;
 use distribution::Verdict;
-
-// The largest size of an Int setting: 2^53.
-const LIMIT: i64 = 9007199254740992;
 
 // k × step from the place n, k the whole number nearest to q, and s the step's place; the first or the last place where that is past it.
 fn steps_from(n: u64, q: f64, s: u64) -> u64
@@ -49,13 +46,6 @@ pub fn from_int(value: f64, d: IntDistribution) -> i64
             stepped(d.low, q, s, d.low, d.high)
         }
     }
-}
-
-// Over 2^53 in size.
-pub fn too_large(x: i64) -> bool
-    ensures { λ r. ⌜ r ≡ intBoundFails x ⌝ }
-{
-    x > LIMIT || x < -LIMIT
 }
 
 // low + k × step, k the drawn number of steps.

@@ -76,7 +76,7 @@ fn setting_fails(value: ParamValue) -> bool
 {
     match value {
         ParamValue::Float(_) => false,
-        ParamValue::Int(v) => int::too_large(v),
+        ParamValue::Int(v) => distribution::validate::int_bound_fails(v),
         ParamValue::Categorical(_) => false,
     }
 }

@@ -54,7 +54,7 @@ fn float_step_fails(low: f64, high: f64, step: FloatStep) -> bool
 }
 
 // Refusal 4 of one Int bound: over 2^53 in size.
-fn int_bound_fails(x: i64) -> bool
+pub fn int_bound_fails(x: i64) -> bool
     ensures { λ r. ⌜ r ≡ intBoundFails x ⌝ }
 {
     x > INT_LIMIT || x < -INT_LIMIT

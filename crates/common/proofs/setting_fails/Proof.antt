@@ -13,8 +13,8 @@ enum-told c = search needs
 enum-known-value : tie.Need-enum-known-value
 enum-known-value c = search needs
 
-too-large-requires : tie.Need-too-large-requires
-too-large-requires c κs = search needs
+int-bound-fails-requires : tie.Need-int-bound-fails-requires
+int-bound-fails-requires c κs = search needs
 
 enum-told-2 : tie.Need-enum-told-2
 enum-told-2 c = search needs
@@ -26,7 +26,7 @@ returns c = ap settingFails (sym (c .enum-told .given .1))
 returns-2 : tie.Need-returns-2
 unfolding settingFails
 returns-2 c =
-    c .too-large .ensures
+    c .int-bound-fails .ensures
     ∙ ap intBoundFails (own-z (c .before .before .value .given .0 .0) (record { sfits = c .before .known-told .given .0 .1 }))
     ∙ ap settingFails (sym (c .before .before .value .given .1))
 
@@ -40,7 +40,7 @@ setting-fails-spec =
     (tie.spec
     enum-told
     enum-known-value
-    too-large-requires
+    int-bound-fails-requires
     enum-told-2
     returns
     returns-2
