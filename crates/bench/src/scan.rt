@@ -1,0 +1,39 @@
+// Calls with a long history of which nothing is wanted.
+use crate::campaign::unit_interval;
+use crate::clock::now;
+use crate::clock::since;
+use crate::work::Timed;
+use crate::work::least;
+use de::sample::sample_slices;
+use state::State;
+
+fn told<'a>(state: State, numbers: &'a [u64], values: &'a [f64]) -> Timed {
+    let from = now();
+    let s = sample_slices(state, unit_interval(), 2, numbers, values);
+    let ns = since(from);
+    let after = s.state;
+    Timed { state: after, ns }
+}
+
+// The least time of fifty calls.
+fn best_told<'a>(state: State, numbers: &'a [u64], values: &'a [f64]) -> u64 {
+    let mut s = state;
+    let mut ns: u64 = 18446744073709551615;
+    let mut i: u64 = 0;
+    while i < 50 {
+        let t = told(s, numbers, values);
+        s = t.state;
+        ns = least(ns, t.ns);
+        i += 1;
+    }
+    ns
+}
+
+// What 100,000 entries of a trial that is not open add to a call.
+pub fn scan_time(state: State) -> u64 {
+    let numbers = [0u64; 100000];
+    let values = [1.0f64; 100000];
+    let long = best_told(state, &numbers, &values);
+    let short = best_told(state, &numbers[0..0], &values[0..0]);
+    if long < short { 0 } else { long - short }
+}
