@@ -10,7 +10,7 @@ use de::sample::sample_slices;
 use state::State;
 use state::lists::trial_numbers;
 
-// A campaign between two closings: the trial that closes the next generation, and the least time of a closing so far.
+// A campaign with every slot's trial open: the trial that closes the generation, and the least time of a closing so far.
 pub struct Campaign {
     pub state: State,
     pub next: u64,
@@ -38,30 +38,33 @@ fn capped(n: usize) -> usize
 }
 
 // The closing call: its history has the results of the first N open trials.
-fn closing(state: State, trial: u64) -> Timed {
+fn closing(c: Campaign) -> Campaign {
+    let state = c.state;
     let open = state.trials;
     let numbers = trial_numbers(open);
     let values = results(state.word);
     let n = capped(state.n);
     let from = now();
-    let s = sample_slices(state, unit_interval(), trial, &numbers[..n], &values[..n]);
+    let s = sample_slices(state, unit_interval(), c.next, &numbers[..n], &values[..n]);
     let ns = since(from);
     let after = s.state;
-    Timed { state: after, ns }
+    Campaign {
+        state: after,
+        next: c.next,
+        ns: least(c.ns, ns),
+    }
 }
 
 // A closing, and the calls that open the next generation's other trials.
 fn generation(c: Campaign) -> Campaign {
-    let before = c.state;
-    let t = closing(before, c.next);
-    let after = t.state;
-    let n = after.n as u64;
-    let end = std::num::wrapping_add_u64(c.next, n);
+    let d = closing(c);
+    let after = d.state;
+    let end = std::num::wrapping_add_u64(c.next, after.n as u64);
     let state = trials(after, std::num::wrapping_add_u64(c.next, 1), end);
     Campaign {
         state,
         next: end,
-        ns: least(c.ns, t.ns),
+        ns: d.ns,
     }
 }
 
@@ -75,20 +78,17 @@ fn generations(from: Campaign, turns: u64) -> Campaign {
     c
 }
 
-// The least time of a closing after the first: of a state with all trials open, the next of which is given.
+// The least time of fifty closings, the first of which stores and the others select.
 pub fn best_closing(state: State, next: u64) -> Timed {
-    let first = Campaign { state, next, ns: 0 };
-    let second = generation(first);
-    let s = second.state;
     let from = Campaign {
-        state: s,
-        next: second.next,
+        state,
+        next,
         ns: 18446744073709551615,
     };
-    let last = generations(from, 20);
+    let last = generations(from, 50);
     let end = last.state;
     Timed {
-        state: end,
+        word: end.word,
         ns: last.ns,
     }
 }

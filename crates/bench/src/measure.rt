@@ -1,57 +1,66 @@
 // The figures: at N = 160 with 16 dimensions, at N = 20 with 2, and of a long history.
 use crate::campaign::open;
 use crate::closings::best_closing;
-use crate::scan::scan_time;
+use crate::scan::scan;
 use crate::show::hundredfold;
 use crate::show::ratio;
 use crate::show::time;
+use crate::show::used;
 use crate::work::Work;
 use crate::work::best;
 use state::State;
 
-fn copy_time(state: State) -> u64 {
-    let t = best(Work::Copy, state, 2000);
-    hundredfold(t.ns, 2000)
+// Hundredths of a nanosecond.
+struct Figures {
+    copy: u64,
+    sample: u64,
+    closing: u64,
 }
 
-fn call_time(state: State, last: u64) -> u64 {
-    let t = best(Work::Call(last), state, 500);
-    hundredfold(t.ns, 500)
+// Of a state with the trials 2 to n + 1 open.
+fn figures_of(state: State, n: u64) -> Figures {
+    let copy = best(Work::Copies, state, 500);
+    let sample = best(Work::Calls, state, n);
+    let closing = best_closing(state, std::num::wrapping_add_u64(n, 2));
+    used(copy.word);
+    used(sample.word);
+    used(closing.word);
+    Figures {
+        copy: hundredfold(copy.ns, 500),
+        sample: hundredfold(sample.ns, n),
+        closing: hundredfold(closing.ns, 1),
+    }
 }
 
-fn closing_time(state: State, next: u64) -> u64 {
-    let t = best_closing(state, next);
-    hundredfold(t.ns, 1)
+fn large(state: State) {
+    let f = figures_of(state, 160);
+    time(b"copy-160-16", f.copy);
+    time(b"sample-160-16", f.sample);
+    time(b"closing-160-16", f.closing);
+    ratio(b"sample/copy-160-16", f.sample, f.copy);
+    ratio(b"closing/copy-160-16", f.closing, f.copy);
 }
 
-fn large(seed: u64) {
-    let state = open(seed, 16, 162);
-    let copy = copy_time(state);
-    let sample = call_time(state, 161);
-    let closing = closing_time(state, 162);
-    time(b"copy-160-16", copy);
-    time(b"sample-160-16", sample);
-    time(b"closing-160-16", closing);
-    ratio(b"sample/copy-160-16", sample, copy);
-    ratio(b"closing/copy-160-16", closing, copy);
-    time(b"scan-ns", hundredfold(scan_time(state), 100000));
+fn small(state: State) {
+    let f = figures_of(state, 20);
+    time(b"copy-20-2", f.copy);
+    time(b"sample-20-2", f.sample);
+    time(b"closing-20-2", f.closing);
+    ratio(b"sample/copy-20-2", f.sample, f.copy);
+    ratio(b"closing/copy-20-2", f.closing, f.copy);
 }
 
-fn small(seed: u64) {
-    let state = open(seed, 2, 22);
-    let copy = copy_time(state);
-    let sample = call_time(state, 21);
-    let closing = closing_time(state, 22);
-    time(b"copy-20-2", copy);
-    time(b"sample-20-2", sample);
-    time(b"closing-20-2", closing);
-    ratio(b"sample/copy-20-2", sample, copy);
-    ratio(b"closing/copy-20-2", closing, copy);
+fn long_history(state: State) {
+    let t = scan(state);
+    used(t.word);
+    time(b"scan-ns", hundredfold(t.ns, 100000));
 }
 
 // The seed is how many arguments there are: 2, which the compiler does not know.
 pub fn measure() {
     let seed = os::arg_count() as u64;
-    large(seed);
-    small(seed);
+    let state = open(seed, 16, 162);
+    large(state);
+    small(open(seed, 2, 22));
+    long_history(state);
 }

@@ -12,28 +12,39 @@ fn told<'a>(state: State, numbers: &'a [u64], values: &'a [f64]) -> Timed {
     let s = sample_slices(state, unit_interval(), 2, numbers, values);
     let ns = since(from);
     let after = s.state;
-    Timed { state: after, ns }
+    Timed {
+        word: after.word,
+        ns,
+    }
 }
 
-// The least time of fifty calls.
-fn best_told<'a>(state: State, numbers: &'a [u64], values: &'a [f64]) -> u64 {
+// The least time of fifty calls, each from the same state but for the word.
+fn best_told<'a>(state: State, numbers: &'a [u64], values: &'a [f64]) -> Timed {
     let mut s = state;
     let mut ns: u64 = 18446744073709551615;
     let mut i: u64 = 0;
     while i < 50 {
         let t = told(s, numbers, values);
-        s = t.state;
+        s.word = t.word;
         ns = least(ns, t.ns);
         i += 1;
     }
-    ns
+    Timed { word: s.word, ns }
 }
 
 // What 100,000 entries of a trial that is not open add to a call.
-pub fn scan_time(state: State) -> u64 {
+pub fn scan(state: State) -> Timed {
     let numbers = [0u64; 100000];
     let values = [1.0f64; 100000];
     let long = best_told(state, &numbers, &values);
     let short = best_told(state, &numbers[0..0], &values[0..0]);
-    if long < short { 0 } else { long - short }
+    let ns = if long.ns < short.ns {
+        0
+    } else {
+        long.ns - short.ns
+    };
+    Timed {
+        word: long.word,
+        ns,
+    }
 }

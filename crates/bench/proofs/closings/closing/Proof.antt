@@ -38,6 +38,9 @@ sample-slices-requires c κs = search needs
 since-requires : tie.Need-since-requires
 since-requires c κs = search needs
 
+least-requires : tie.Need-least-requires
+least-requires c κs = search needs
+
 returns : tie.Need-returns
 returns c = search needs
 
@@ -56,4 +59,5 @@ closing-spec =
     slice-aggregate-sample-slices-2
     sample-slices-requires
     since-requires
+    least-requires
     returns)

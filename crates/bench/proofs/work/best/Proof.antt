@@ -9,7 +9,7 @@ abbrev Inv-loop : tie.InvT-loop
 Inv-loop work turns s₀ ns₀ i₀ s ns i = Unit {0}
 
 abbrev μ-loop : tie.MeasureT-loop
-μ-loop work turns s₀ ns₀ i₀ s ns i = 9 - i
+μ-loop work turns s₀ ns₀ i₀ s ns i = 50 - i
 
 loop-holds : tie.Need-loop-holds Inv-loop μ-loop
 loop-holds c = tt
