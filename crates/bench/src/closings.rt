@@ -88,7 +88,8 @@ pub fn best_closing(state: State, next: u64) -> Timed {
     let last = generations(from, 50);
     let end = last.state;
     Timed {
-        word: end.word,
         ns: last.ns,
+        word: end.word,
+        n_trials: end.n_trials,
     }
 }

@@ -1,4 +1,4 @@
-// Times the sampler: `bench run` prints ratios and times. Without that word it measures nothing, so that no test depends on a time.
+// Times the sampler: `bench run` prints ratios and times. Without that word it measures nothing: no test depends on a time.
 mod campaign;
 mod clock;
 mod closings;

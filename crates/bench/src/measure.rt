@@ -2,10 +2,10 @@
 use crate::campaign::open;
 use crate::closings::best_closing;
 use crate::scan::scan;
+use crate::show::expect;
 use crate::show::hundredfold;
 use crate::show::ratio;
 use crate::show::time;
-use crate::show::used;
 use crate::work::Work;
 use crate::work::best;
 use state::State;
@@ -22,9 +22,9 @@ fn figures_of(state: State, n: u64) -> Figures {
     let copy = best(Work::Copies, state, 500);
     let sample = best(Work::Calls, state, n);
     let closing = best_closing(state, std::num::wrapping_add_u64(n, 2));
-    used(copy.word);
-    used(sample.word);
-    used(closing.word);
+    expect(copy.n_trials == n as usize);
+    expect(sample.n_trials == n as usize);
+    expect(closing.n_trials == n as usize);
     Figures {
         copy: hundredfold(copy.ns, 500),
         sample: hundredfold(sample.ns, n),
@@ -52,7 +52,7 @@ fn small(state: State) {
 
 fn long_history(state: State) {
     let t = scan(state);
-    used(t.word);
+    expect(t.n_trials == 160);
     time(b"scan-ns", hundredfold(t.ns, 100000));
 }
 

@@ -13,23 +13,30 @@ fn told<'a>(state: State, numbers: &'a [u64], values: &'a [f64]) -> Timed {
     let ns = since(from);
     let after = s.state;
     Timed {
-        word: after.word,
         ns,
+        word: after.word,
+        n_trials: after.n_trials,
     }
 }
 
-// The least time of fifty calls, each from the same state but for the word.
+// The least time of fifty calls. Each starts from the same state, but for the word that the one before left.
 fn best_told<'a>(state: State, numbers: &'a [u64], values: &'a [f64]) -> Timed {
     let mut s = state;
     let mut ns: u64 = 18446744073709551615;
+    let mut n_trials: usize = 0;
     let mut i: u64 = 0;
     while i < 50 {
         let t = told(s, numbers, values);
         s.word = t.word;
+        n_trials = t.n_trials;
         ns = least(ns, t.ns);
         i += 1;
     }
-    Timed { word: s.word, ns }
+    Timed {
+        ns,
+        word: s.word,
+        n_trials,
+    }
 }
 
 // What 100,000 entries of a trial that is not open add to a call.
@@ -44,7 +51,8 @@ pub fn scan(state: State) -> Timed {
         long.ns - short.ns
     };
     Timed {
-        word: long.word,
         ns,
+        word: long.word,
+        n_trials: long.n_trials,
     }
 }

@@ -11,10 +11,11 @@ pub enum Work {
     Calls,
 }
 
-// The generator's word after the work, and the time that it took. Who keeps the word keeps the work.
+// The time that work took, and what it left: the generator's word, and how many trials are open.
 pub struct Timed {
-    pub word: u64,
     pub ns: u64,
+    pub word: u64,
+    pub n_trials: usize,
 }
 
 // 0 or 1, by a drawn output.
@@ -53,8 +54,9 @@ fn batch(work: Work, state: State, turns: u64) -> Timed {
     let after = done(work, state, turns);
     let ns = since(from);
     Timed {
-        word: after.word,
         ns,
+        word: after.word,
+        n_trials: after.n_trials,
     }
 }
 
@@ -62,16 +64,22 @@ pub fn least(a: u64, b: u64) -> u64 {
     if b < a { b } else { a }
 }
 
-// The least time of fifty batches, each from the same state but for the word.
+// The least time of fifty batches. Each starts from the same state, but for the word that the one before left.
 pub fn best(work: Work, state: State, turns: u64) -> Timed {
     let mut s = state;
     let mut ns: u64 = 18446744073709551615;
+    let mut n_trials: usize = 0;
     let mut i: u64 = 0;
     while i < 50 {
         let t = batch(work, s, turns);
         s.word = t.word;
+        n_trials = t.n_trials;
         ns = least(ns, t.ns);
         i += 1;
     }
-    Timed { word: s.word, ns }
+    Timed {
+        ns,
+        word: s.word,
+        n_trials,
+    }
 }

@@ -6,10 +6,10 @@ use Rattle.bench.proofs.work.best.Statement.{statement}
 use Rattle.bench.proofs.work.best.Tie as tie
 
 abbrev Inv-loop : tie.InvT-loop
-Inv-loop work turns s₀ ns₀ i₀ s ns i = Unit {0}
+Inv-loop work turns s₀ ns₀ k₀ i₀ s ns k i = Unit {0}
 
 abbrev μ-loop : tie.MeasureT-loop
-μ-loop work turns s₀ ns₀ i₀ s ns i = 50 - i
+μ-loop work turns s₀ ns₀ k₀ i₀ s ns k i = 50 - i
 
 loop-holds : tie.Need-loop-holds Inv-loop μ-loop
 loop-holds c = tt
