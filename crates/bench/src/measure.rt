@@ -53,7 +53,8 @@ fn small(state: State) {
 fn long_history(state: State) {
     let t = scan(state);
     expect(t.n_trials == 160);
-    time(b"scan-ns", hundredfold(t.ns, 100000));
+    // Nanoseconds an entry.
+    ratio(b"scan-ns", hundredfold(t.ns, 100000), 100);
 }
 
 // The seed is how many arguments there are: 2, which the compiler does not know.
