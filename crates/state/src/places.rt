@@ -93,10 +93,13 @@ fn choices_fit(choices: [u16; 16], limits: [u16; 16]) -> bool
     fit
 }
 
-// Unused entries from place n on.
+// Unused entries from place n on: in one sweep where no dimension is continuous.
 fn zeros_from(x: [f64; 16], n: usize) -> bool
     ensures { λ r. ⌜ r ≡ all isZero (drop n x) ⌝ }
 {
+    if n == 0 {
+        return all_zero(x);
+    }
     let mut j = n;
     while j < 16 {
         if is_zero(x[j]) {

@@ -129,21 +129,17 @@ pub fn is_sound(state: State) -> bool
     if !counts_sound(setup, first, state.discovered, limits.n, counts) {
         return false;
     }
-    let candidates = state.candidates;
     let n_candidates = candidate_count(state.discovered, n, n_trials);
-    if !candidates_fit(candidates, n_candidates, limits) {
-        return false;
-    }
-    let trials = state.trials;
-    if !trials_fit(trials, n_trials, n_dims) {
-        return false;
-    }
-    if !numbers_differ(trials, n_trials) {
-        return false;
-    }
-    let parents = state.parents;
     let n_parents = parent_count(state.closed, n);
-    if !parents_fit(parents, n_parents, limits) {
+    let candidates = state.candidates;
+    let trials = state.trials;
+    let parents = state.parents;
+    // All four without a branch between them: a call after several ways out counts as rare, and copies what it is handed.
+    let fit = candidates_fit(candidates, n_candidates, limits)
+        & trials_fit(trials, n_trials, n_dims)
+        & numbers_differ(trials, n_trials)
+        & parents_fit(parents, n_parents, limits);
+    if !fit {
         return false;
     }
     state.best == best_slot(parents, n_parents)

@@ -1,7 +1,7 @@
--- `zeros_from` meets its contract: what is left decides, one entry less with each turn.
-use Prim.Native.Nat.{_-_}
+-- `zeros_from` meets its contract: all of them where n is 0; else what is left decides, one entry less with each turn.
+use Prim.Native.Nat.{ℕ, _-_}
 use native.Mathlib.Omega.{arith}
-use mathlib.Core.Path.{_≡_, refl, sym, _∙_}
+use mathlib.Core.Path.{_≡_, refl, sym, ap, _∙_}
 use borrow.Author.Needs.{needs}
 use lib.ListN.{drop}
 use Rattle.ledger.specs.Words.{all}
@@ -15,6 +15,12 @@ Inv-loop n x j₀ j = all isZero (drop n x) ≡ all isZero (drop j x)
 
 abbrev μ-loop : tie.MeasureT-loop
 μ-loop n x j₀ j = 16 - j
+
+all-zero-requires : tie.Need-all-zero-requires Inv-loop μ-loop
+all-zero-requires c κs = search needs
+
+returns : tie.Need-returns Inv-loop μ-loop
+returns c = c .all-zero .ensures ∙ ap (λ (k : ℕ). all isZero (drop k (c .before .before .args .t1))) (sym (c .before .if1 .taken))
 
 loop-holds : tie.Need-loop-holds Inv-loop μ-loop
 loop-holds c = refl
@@ -35,13 +41,13 @@ loop-less : tie.Need-loop-less Inv-loop μ-loop
 loop-less c = omega arith
 
 loop-again : tie.Need-loop-again Inv-loop μ-loop
-loop-again c = c .before .before .before .loop .inv ∙ all-yes isZero (c .before .before .before .before .args .t1) (c .before .before .before .loop .j) _ _ (search needs) (c .before .is-zero .ensures) (c .if1 .taken)
-
-returns : tie.Need-returns Inv-loop μ-loop
-returns c = sym (c .before .before .before .loop .inv ∙ all-no isZero (c .before .before .before .before .args .t1) (c .before .before .before .loop .j) _ _ (search needs) (c .before .is-zero .ensures) (c .if1 .left))
+loop-again c = c .before .before .before .loop .inv ∙ all-yes isZero (c .before .before .before .before .before .args .t1) (c .before .before .before .loop .j) _ _ (search needs) (c .before .is-zero .ensures) (c .if2 .taken)
 
 returns-2 : tie.Need-returns-2 Inv-loop μ-loop
-returns-2 c = sym (c .before .loop .inv ∙ all-end isZero (c .before .before .args .t1) (c .before .loop .j) (search needs))
+returns-2 c = sym (c .before .before .before .loop .inv ∙ all-no isZero (c .before .before .before .before .before .args .t1) (c .before .before .before .loop .j) _ _ (search needs) (c .before .is-zero .ensures) (c .if2 .left))
+
+returns-3 : tie.Need-returns-3 Inv-loop μ-loop
+returns-3 c = sym (c .before .loop .inv ∙ all-end isZero (c .before .before .before .args .t1) (c .before .loop .j) (search needs))
 
 pub zeros-from-spec : {M : Type 1} → statement M
 zeros-from-spec =
@@ -49,6 +55,8 @@ zeros-from-spec =
     (tie.spec
     Inv-loop
     μ-loop
+    all-zero-requires
+    returns
     loop-holds
     mul-is-zero
     array-read-is-zero
@@ -56,5 +64,5 @@ zeros-from-spec =
     add-j
     loop-less
     loop-again
-    returns
-    returns-2)
+    returns-2
+    returns-3)

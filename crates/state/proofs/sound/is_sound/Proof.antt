@@ -1,8 +1,8 @@
--- `is_sound` meets its contract: a part that fails refutes soundness (`refuted`), and where the others pass the last one decides (`settled`).
+-- `is_sound` meets its contract: a test that fails refutes soundness (`refuted`), and where the others pass the last one decides (`settled`).
 use Prim.Native.Nat.{_≤_}
 use native.Mathlib.Omega.{arith}
 use mathlib.Core.Path.{_≡_, sym, _∙_}
-use mathlib.Core.Bool.{true}
+use mathlib.Core.Bool.{true, _&&_}
 use borrow.Author.Needs.{needs}
 use borrow.Author.Tests.{le-leb, lt-leb}
 use lib.Dec.{leb}
@@ -12,7 +12,7 @@ use Rattle.kernel.specs.Fits.{fits}
 use Rattle.state.specs.Blank.{isBlankDim, isBlankTrial, isBlankCandidate, isBlankMember}
 use Rattle.state.specs.View.{candidateCount, parentCount}
 use Rattle.state.specs.Places.{placesFit, passes, nextFits, memberFits, numbersOf}
-use Rattle.state.proofs.Flags.{failed, passed}
+use Rattle.state.proofs.Flags.{failed, passed, true-and, and-true}
 use Rattle.state.proofs.Measured.{Measured, measured}
 use Rattle.state.proofs.Parts.{dimsOf}
 use Rattle.state.proofs.Told.{few-choices, continuous-few, counts-told, candidates-told, parents-told, best-told}
@@ -39,21 +39,23 @@ counts-pass c =
 few : (c : tie.Else3) → Few (c .before .before .before .before .before .before .before .before .args .state)
 few c = few-of (c .before .before .before .before .before .before .before .before .args .state) (few-dims (c .before .before .before .before .before .before)) (counts-pass c)
 
-candidates-pass : (c : tie.Else4) → let s = c .before .before .before .before .before .before .before .before .before .before .before .before .args .state in placesFit (fits (dimsOf s)) isBlankCandidate (candidateCount s) (s .candidates) ≡ true
-candidates-pass c =
-    let b = c .before .before .before .before .before .before .before in
-    sym (candidates-told (b .before .before .before .before .before .args .state) _ (few-dims (b .before .before .before)) (b .limits-of .ensures) (c .before .before .candidate-count .ensures) (c .before .candidates-fit .ensures)) ∙ passed _ (c .if4 .left)
+candidates-are : (f : tie.After-parents-fit) → let s = f .before .before .before .before .before .before .before .before .before .before .before .before .before .before .before .before .before .args .state in f .before .before .before .candidates-fit .result ≡ placesFit (fits (dimsOf s)) isBlankCandidate (candidateCount s) (s .candidates)
+candidates-are f = candidates-told (f .before .before .before .before .before .before .before .before .before .before .before .before .before .before .before .before .before .args .state) _ (few-dims (f .before .before .before .before .before .before .before .before .before .before .before .before .before .before .before)) (f .before .before .before .before .before .before .before .before .before .before .before .before .limits-of .ensures) (f .before .before .before .before .before .before .before .before .candidate-count .ensures) (f .before .before .before .candidates-fit .ensures)
 
-trials-pass : (c : tie.Else5) → let s = c .before .before .before .before .before .before .before .before .before .before .before .before .before .before .before .args .state in placesFit (nextFits (s .«n_dims»)) isBlankTrial (s .«n_trials») (s .trials) ≡ true
-trials-pass c = sym (c .before .trials-fit .ensures) ∙ passed _ (c .if5 .left)
+parents-are : (f : tie.After-parents-fit) → let s = f .before .before .before .before .before .before .before .before .before .before .before .before .before .before .before .before .before .args .state in f .parents-fit .result ≡ placesFit (memberFits (dimsOf s)) isBlankMember (parentCount s) (s .parents)
+parents-are f = parents-told (f .before .before .before .before .before .before .before .before .before .before .before .before .before .before .before .before .before .args .state) _ (few-dims (f .before .before .before .before .before .before .before .before .before .before .before .before .before .before .before)) (f .before .before .before .before .before .before .before .before .before .before .before .before .limits-of .ensures) (f .before .before .before .before .before .before .before .parent-count .ensures) (f .parents-fit .ensures)
 
-differ-pass : (c : tie.Else6) → let s = c .before .before .before .before .before .before .before .before .before .before .before .before .before .before .before .before .before .args .state in differing (numbersOf (take (s .«n_trials») (s .trials))) ≡ true
-differ-pass c = sym (c .before .numbers-differ .ensures) ∙ passed _ (c .if6 .left)
+-- the four sweeps of the arrays, as the code joins them
+sweeps : (c : tie.Else4) → let f = c .before in
+    (((f .before .before .before .candidates-fit .result ≡ true) × (f .before .before .trials-fit .result ≡ true)) × (f .before .numbers-differ .result ≡ true)) × (f .parents-fit .result ≡ true)
+sweeps c =
+    let f = c .before in
+    let last = true-and (f .before .before .before .candidates-fit .result && f .before .before .trials-fit .result && f .before .numbers-differ .result) (f .parents-fit .result) (passed _ (c .if4 .left)) in
+    let third = true-and (f .before .before .before .candidates-fit .result && f .before .before .trials-fit .result) (f .before .numbers-differ .result) (last .0) in
+    ((true-and (f .before .before .before .candidates-fit .result) (f .before .before .trials-fit .result) (third .0), third .1), last .1)
 
-parents-pass : (c : tie.Else7) → let s = c .before .before .before .before .before .before .before .before .before .before .before .before .before .before .before .before .before .before .before .before .before .args .state in placesFit (memberFits (dimsOf s)) isBlankMember (parentCount s) (s .parents) ≡ true
-parents-pass c =
-    let b = c .before .before .before .before .before .before .before .before .before .before .before .before .before .before .before .before in
-    sym (parents-told (b .before .before .before .before .before .args .state) _ (few-dims (b .before .before .before)) (b .limits-of .ensures) (c .before .before .parent-count .ensures) (c .before .parents-fit .ensures)) ∙ passed _ (c .if7 .left)
+parents-pass : (c : tie.Else4) → let s = c .before .before .before .before .before .before .before .before .before .before .before .before .before .before .before .before .before .before .args .state in placesFit (memberFits (dimsOf s)) isBlankMember (parentCount s) (s .parents) ≡ true
+parents-pass c = sym (parents-are (c .before)) ∙ sweeps c .1
 
 -- ---- the needs
 
@@ -81,57 +83,46 @@ returns-3 c =
 candidate-count-requires : tie.Need-candidate-count-requires
 candidate-count-requires c κs = search needs
 
+parent-count-requires : tie.Need-parent-count-requires
+parent-count-requires c κs = search needs
+
 candidates-fit-requires : tie.Need-candidates-fit-requires
 candidates-fit-requires c κs = search needs
-
-returns-4 : tie.Need-returns-4
-returns-4 c =
-    let b = c .before .before .before .before .before .before .before in
-    refuted _ (sized (c .before .before .before .before .before .before .before .before .before .before .before .before)) _
-    (λ p. candidates-told (b .before .before .before .before .before .args .state) _ (few-dims (b .before .before .before)) (b .limits-of .ensures) (c .before .before .candidate-count .ensures) (c .before .candidates-fit .ensures) ∙ p .candidates)
-    (failed _ (c .if4 .taken))
 
 trials-fit-requires : tie.Need-trials-fit-requires
 trials-fit-requires c κs = search needs
 
-returns-5 : tie.Need-returns-5
-returns-5 c = refuted _ (sized (c .before .before .before .before .before .before .before .before .before .before .before .before .before .before .before)) _ (λ p. c .before .trials-fit .ensures ∙ p .trials) (failed _ (c .if5 .taken))
-
 numbers-differ-requires : tie.Need-numbers-differ-requires
 numbers-differ-requires c κs = few (c .before .before .before .before .before .before .before) .trials
-
-returns-6 : tie.Need-returns-6
-returns-6 c = refuted _ (sized (c .before .before .before .before .before .before .before .before .before .before .before .before .before .before .before .before .before)) _ (λ p. c .before .numbers-differ .ensures ∙ p .differ) (failed _ (c .if6 .taken))
-
-parent-count-requires : tie.Need-parent-count-requires
-parent-count-requires c κs = search needs
 
 parents-fit-requires : tie.Need-parents-fit-requires
 parents-fit-requires c κs = search needs
 
-returns-7 : tie.Need-returns-7
-returns-7 c =
-    let b = c .before .before .before .before .before .before .before .before .before .before .before .before .before .before .before .before in
-    refuted _ (sized (c .before .before .before .before .before .before .before .before .before .before .before .before .before .before .before .before .before .before .before .before .before)) _
-    (λ p. parents-told (b .before .before .before .before .before .args .state) _ (few-dims (b .before .before .before)) (b .limits-of .ensures) (c .before .before .parent-count .ensures) (c .before .parents-fit .ensures) ∙ p .parents)
-    (failed _ (c .if7 .taken))
+returns-4 : tie.Need-returns-4
+returns-4 c =
+    let f = c .before in
+    refuted _ (sized (f .before .before .before .before .before .before .before .before .before .before .before .before .before .before .before .before .before)) _
+    (λ p. and-true (and-true (and-true (candidates-are f ∙ p .candidates) (f .before .before .trials-fit .ensures ∙ p .trials)) (f .before .numbers-differ .ensures ∙ p .differ)) (parents-are f ∙ p .parents))
+    (failed _ (c .if4 .taken))
 
 best-slot-requires : tie.Need-best-slot-requires
-best-slot-requires c κs = omega (arith, c .before .before .parent-count .ensures, few-parents _ (sized (c .before .before .before .before .before .before .before .before .before .before .before .before .before .before .before .before .before .before .before .before .before)) (few (c .before .before .before .before .before .before .before .before .before .before .before .before .before)))
+best-slot-requires c κs =
+    let f = c .before in omega (arith, f .before .before .before .before .before .before .before .parent-count .ensures, few-parents _ (sized (f .before .before .before .before .before .before .before .before .before .before .before .before .before .before .before .before .before)) (few (f .before .before .before .before .before .before .before .before .before)))
 
-returns-8 : tie.Need-returns-8
-returns-8 c =
+returns-5 : tie.Need-returns-5
+returns-5 c =
     let b = c .before .before in
-    let s = c .before .before .before .before .before .before .before .before .before .before .before .before .before .before .before .before .before .before .before .before .before .before .before .args .state in
-    let q = best-told s _ _ (b .before .before .parent-count .ensures) (c .before .best-slot .ensures) (parents-pass b) in
-    settled s (sized (c .before .before .before .before .before .before .before .before .before .before .before .before .before .before .before .before .before .before .before .before .before .before .before)) _
+    let f = b .before in
+    let s = f .before .before .before .before .before .before .before .before .before .before .before .before .before .before .before .before .before .args .state in
+    let q = best-told s _ _ (f .before .before .before .before .before .before .before .parent-count .ensures) (c .before .best-slot .ensures) (parents-pass b) in
+    settled s (sized (f .before .before .before .before .before .before .before .before .before .before .before .before .before .before .before .before .before)) _
     (λ e. record {
-      few-dims = few-dims (c .before .before .before .before .before .before .before .before .before .before .before .before .before .before .before .before .before .before .before .before .before);
-      dims = dims-pass (c .before .before .before .before .before .before .before .before .before .before .before .before .before .before .before .before .before .before .before);
-      counts = counts-pass (c .before .before .before .before .before .before .before .before .before .before .before .before .before .before .before);
-      candidates = candidates-pass (c .before .before .before .before .before .before .before .before .before .before .before);
-      trials = trials-pass (c .before .before .before .before .before .before .before .before);
-      differ = differ-pass (c .before .before .before .before .before .before);
+      few-dims = few-dims (f .before .before .before .before .before .before .before .before .before .before .before .before .before .before .before);
+      dims = dims-pass (f .before .before .before .before .before .before .before .before .before .before .before .before .before);
+      counts = counts-pass (f .before .before .before .before .before .before .before .before .before);
+      candidates = sym (candidates-are f) ∙ sweeps b .0 .0 .0;
+      trials = sym (f .before .before .trials-fit .ensures) ∙ sweeps b .0 .0 .1;
+      differ = sym (f .before .numbers-differ .ensures) ∙ sweeps b .0 .1;
       parents = parents-pass b;
       best = sym q ∙ e;
     })
@@ -148,14 +139,11 @@ is-sound-spec =
     counts-sound-requires
     returns-3
     candidate-count-requires
-    candidates-fit-requires
-    returns-4
-    trials-fit-requires
-    returns-5
-    numbers-differ-requires
-    returns-6
     parent-count-requires
+    candidates-fit-requires
+    trials-fit-requires
+    numbers-differ-requires
     parents-fit-requires
-    returns-7
+    returns-4
     best-slot-requires
-    returns-8)
+    returns-5)
