@@ -8,7 +8,7 @@ use borrow.Author.Tests.{lt-ltb, le-ltb}
 use lib.Dec.{ltb}
 use lib.Ieee.{Float}
 use lib.ListN.{length, getD, set, take, length-take}
-use lib.Seq.{length-take-le, getD-take}
+use lib.Seq.{length-take-le, getD-take, set-getD}
 use Rattle.rng_util.specs.declared.Gen.{Gen}
 use Rattle.distribution.specs.Dims.{continuous, noDim}
 use Rattle.distribution.specs.declared.Ci.{Ci}
@@ -138,3 +138,36 @@ module _ (s : State) (lent : Distribution) (n : ℕ) (g : Gen) (place count : �
   pub active-missing : a .ok ≡ false → missing s ≡ rawActive s lent n g
   unfolding servedWith
   active-missing t = sym (cond-false (a .ok) _ _ t) ∙ served-is
+
+-- the same where the trial has its candidate, which stays
+module _ (s : State) (lent : Distribution) (n : ℕ) (g : Gen) (place : ℕ) (p : place ≡ placeOf s n) (known : place < candidateCount s) where
+  abbrev own : Candidate
+  own = getD (s .candidates) place noCandidate
+
+  pub known-given : (m : DrawnSetting) (next T : ℕ) → m ≡ settingRec (settingFor (dimsOf s) lent (nextAt s place) own g)
+      → next ≡ min (nextAt s place + 1) (s .«n_dims») → T ≡ max (s .«n_trials») (place + 1)
+      → record {
+        ok = true;
+        setting = m .setting;
+        draws = m .after .draws;
+        state = record {
+          setup = s .setup;
+          first = s .first;
+          discovered = s .discovered;
+          n = s .n;
+          «n_dims» = s .«n_dims»;
+          dims = s .dims;
+          candidates = s .candidates;
+          parents = s .parents;
+          «n_trials» = T;
+          trials = set (s .trials) place (record { number = n; «next_dim» = next });
+          best = s .best;
+          word = m .after .word;
+          closed = s .closed;
+          idle = s .idle;
+        };
+      } ≡ rawActive s lent n g
+  known-given m next T h i j =
+      rw (set-getD (s .candidates) place noCandidate) at
+      (active-given s lent n g place (candidateCount s) (record { ok = true; candidate = own; after = g }) p refl
+      (known-is (ltb place (candidateCount s)) own (dimsOf s) g (lt-ltb place (candidateCount s) known)) m next T refl h i j)

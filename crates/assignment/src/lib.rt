@@ -54,7 +54,7 @@ fn decode(d: Distribution, at: DimIdx, ci: Ci, c: Candidate) -> ParamValue
 }
 
 // The candidate's setting for dimension `at`, by the stored distribution; past the last, a random one of the lent.
-fn setting_for(
+pub fn setting_for(
     dims: [DimensionInfo; 16],
     n_dims: usize,
     lent: Distribution,
@@ -113,7 +113,7 @@ fn assign_candidate(
 }
 
 // One dimension on, and no further than past the last.
-fn next_dim_after(k: usize, n_dims: usize) -> usize
+pub fn next_dim_after(k: usize, n_dims: usize) -> usize
     requires { ⌜ «n_dims» ≤ 16 ⌝ }
     ensures { λ r. ⌜ r ≡ min (k + 1) «n_dims» ⌝ }
 {

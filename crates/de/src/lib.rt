@@ -2,6 +2,7 @@
 pub mod ask;
 pub mod build;
 pub mod look;
+mod plain;
 pub mod sample;
 
 use distribution::ParamValue;

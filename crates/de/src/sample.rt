@@ -13,6 +13,8 @@ use crate::Answer;
 use crate::Sampled;
 use crate::ask::ask;
 use crate::ask::ask_state;
+use crate::plain::plain_place;
+use crate::plain::sample_plain;
 use assignment::Accepted;
 use assignment::discovery::discovers;
 use assignment::discovery::finalize_discovery;
@@ -69,7 +71,7 @@ fn count_refusal(
 }
 
 // The first of the refusals 4 to 10.
-fn refusal_of(d: Distribution, nan: bool, counts: Verdict) -> Verdict
+pub fn refusal_of(d: Distribution, nan: bool, counts: Verdict) -> Verdict
     ensures { λ r. ⌜ r ≡ firstRefusal d nan counts ⌝ }
 {
     let judged = validate(d);
@@ -128,8 +130,8 @@ fn accept(state: State, d: Distribution, trial: u64, closes: bool, results: [f64
     }
 }
 
-// The call, given what its history has.
-fn sample_gathered(state: State, d: Distribution, trial: u64, g: Gathered) -> Sampled
+// A call of any kind, given what its history has.
+fn sample_any(state: State, d: Distribution, trial: u64, g: Gathered) -> Sampled
     requires { ⌜ Numbers state g ⌝ }
     ensures { λ r. ⌜ r ≡ sampledOn state d trial (g .nan) (rowIn state (g .found) (g .values)) ⌝ }
 {
@@ -187,7 +189,34 @@ fn sample_gathered(state: State, d: Distribution, trial: u64, g: Gathered) -> Sa
     }
 }
 
-// The sample call over two plain slices, a number and a value for each entry of the history.
+// The call, given what its history has. Most calls are plain: a state that is handed on is copied, and they hand on parts.
+fn sample_gathered(state: State, d: Distribution, trial: u64, g: Gathered) -> Sampled
+    requires { ⌜ Numbers state g ⌝ }
+    ensures { λ r. ⌜ r ≡ sampledOn state d trial (g .nan) (rowIn state (g .found) (g .values)) ⌝ }
+{
+    let trials = state.trials;
+    let at = plain_place(
+        state.discovered,
+        state.n,
+        state.n_trials,
+        trials,
+        d,
+        trial,
+        g,
+    );
+    let place = at.place;
+    if at.plain {
+        if is_sound(state) {
+            let candidates = state.candidates;
+            let own = candidates[place];
+            return sample_plain(state, d, trial, place, own);
+        }
+    }
+    sample_any(state, d, trial, g)
+}
+
+// The sample call over two plain slices, a number and a value for each entry of the history. It is `sample_gathered` on what
+// they have, written out, and takes apart what it hands back: so a plain call is one copy in and one out.
 pub fn sample_slices<'a>(
     state: State,
     distribution: Distribution,
@@ -197,11 +226,36 @@ pub fn sample_slices<'a>(
 ) -> Sampled
     ensures { λ r. ⌜ r ≡ sampleOf state distribution trial (trialsOf (now (numbers .entry)) (now (values .entry))) ⌝ }
 {
+    let n_trials = state.n_trials;
     let trials = state.trials;
-    let q = ask(state.discovered, state.n, state.n_trials, trials);
+    let q = ask(state.discovered, state.n, n_trials, trials);
     let wanted = q.wanted;
     let g = gather_slices(numbers, values, q.lo, q.hi, wanted);
-    sample_gathered(state, distribution, trial, g)
+    let at = plain_place(
+        state.discovered,
+        state.n,
+        n_trials,
+        trials,
+        distribution,
+        trial,
+        g,
+    );
+    let place = at.place;
+    if at.plain {
+        if is_sound(state) {
+            let candidates = state.candidates;
+            let own = candidates[place];
+            return sample_plain(state, distribution, trial, place, own);
+        }
+    }
+    let r = sample_any(state, distribution, trial, g);
+    let answer = r.answer;
+    let s = r.state;
+    Sampled {
+        answer,
+        state: s,
+        draws: r.draws,
+    }
 }
 
 // The sample call over a slice of completed trials.
