@@ -15,6 +15,7 @@ use distribution::DimensionInfo;
 use rng_util::Gen;
 
 // Entries by the place among the continuous dimensions, choices by the place among all; unused places are 0.
+#[repr(C)]
 pub struct Candidate {
     pub x: [f64; 16],
     pub choices: [u16; 16],

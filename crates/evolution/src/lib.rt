@@ -42,6 +42,7 @@ pub struct Setup {
 }
 
 // What a slot holds: a parent, and the result that it was counted with.
+#[repr(C)]
 pub struct Member {
     pub candidate: Candidate,
     pub value: f64,

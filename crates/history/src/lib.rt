@@ -4,6 +4,7 @@ ghost use mathlib.Core.Path.{_≡_};
 ghost use Rattle.history.specs.Entry.{isBad, countedValue};
 ghost use Rattle.history.specs.Scan.{places, absorbed, mayMatter, gathered, trialsOf};
 
+#[repr(C)]
 pub struct CompletedTrial {
     pub number: u64,
     pub value: f64,

@@ -10,6 +10,7 @@ pub mod setup;
 pub mod sound;
 
 // An open trial: its number, and the dimension that its next call gives. The i-th one has candidate i.
+#[repr(C)]
 pub struct TrialProgress {
     pub number: u64,
     pub next_dim: usize,
