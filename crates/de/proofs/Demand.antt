@@ -120,7 +120,7 @@ module _ (S : Setup) (ok : isValid (setupVerdict S) ≡ true) where
   call-clean : (s : State) (c : Call de) → Clean S s → Clean S ((ran s c) .state)
   call-clean s c e = rw (stepped s c e) (laid-clean ((step de S (view s) c) .state) (step-sound de de-laws S (view s) c (e .sound)))
 
-  meets : Meets de (program S) S
+  pub meets : Meets de (program S) S
   unfolding freshState
   meets =
       record {

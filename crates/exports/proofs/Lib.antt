@@ -1,0 +1,4 @@
+pub mod Dims
+pub mod Stored
+pub mod Edge
+pub mod Demand

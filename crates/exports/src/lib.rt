@@ -1,0 +1,90 @@
+// The sampler for callers in C and Rust: `rt staticlib exports` writes the library. Every struct is laid out as C lays it out.
+// A call or set-up with a number that names no case answers kind 4; a state with one is not sound, and that is refusal 0.
+ghost use mathlib.Core.Path.{_≡_};
+ghost use Rattle.exports.specs.Build.{newAnswer, newState};
+ghost use Rattle.exports.specs.Answers.{sampleAnswer, sampleState};
+ghost use Rattle.exports.specs.Look.{lookAt};
+ghost use Rattle.exports.specs.Internal.{internalOf};
+ghost use Rattle.exports.specs.Marks.{marks};
+use answers::DeAnswer;
+use answers::DeCall;
+use answers::open_call;
+use answers::settle;
+use build::fresh;
+use build::settle_setup;
+use de::sample::sample;
+use flat::DeDistribution;
+use flat::DeSetup;
+use flat::DeState;
+use flatten::flatten;
+use history::CompletedTrial;
+use internal::DeInternal;
+use internal::DeSetting;
+use internal::internal_of;
+use look::DeLook;
+use look::look_at;
+use marks::DeMarks;
+use marks::marked;
+
+pub mod answers;
+pub mod build;
+pub mod flat;
+pub mod flatten;
+pub mod internal;
+pub mod known;
+pub mod look;
+pub mod marks;
+pub mod numbered;
+
+// A state from a set-up. What is lent is written only where the set-up is accepted, and never read.
+#[no_mangle]
+pub extern "C" fn de_new(state: &mut DeState, setup: DeSetup) -> DeAnswer
+    ensures { λ r. ⌜ (r ≡ newAnswer setup) × (now (state .exit) ≡ newState (now (state .entry)) setup) ⌝ }
+{
+    let o = settle_setup(setup);
+    if o.stores {
+        *state = fresh(setup);
+    }
+    o.answer
+}
+
+// A sample call. The lent state is written only where there is a setting.
+#[no_mangle]
+pub extern "C" fn de_sample(
+    state: &mut DeState,
+    call: DeCall,
+    history: &[CompletedTrial],
+) -> DeAnswer
+    ensures { λ r. ⌜ (r ≡ sampleAnswer (now (state .entry)) call (now (history .entry))) × (now (state .exit) ≡ sampleState (now (state .entry)) call (now (history .entry))) ⌝ }
+{
+    let q = open_call(*state, call);
+    let r = sample(q.state, q.distribution, call.trial, history);
+    let o = settle(q.known_call, q.known_state, r.answer, r.draws);
+    if o.stores {
+        *state = flatten(r.state);
+    }
+    o.answer
+}
+
+#[no_mangle]
+pub extern "C" fn de_look(state: &DeState) -> DeLook
+    ensures { λ r. ⌜ r ≡ lookAt (now (state .entry)) ⌝ }
+{
+    let s = *state;
+    look_at(s)
+}
+
+#[no_mangle]
+pub extern "C" fn de_to_internal(distribution: DeDistribution, setting: DeSetting) -> DeInternal
+    ensures { λ r. ⌜ r ≡ internalOf distribution setting ⌝ }
+{
+    internal_of(distribution, setting)
+}
+
+// The layout that the library has.
+#[no_mangle]
+pub extern "C" fn de_marks() -> DeMarks
+    ensures { λ r. ⌜ r ≡ marks ⌝ }
+{
+    marked()
+}
