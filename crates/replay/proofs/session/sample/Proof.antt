@@ -1,0 +1,31 @@
+-- `sample` meets its contract: the state is that of the sample call, and only the sink changes beside it; or the run ends.
+use mathlib.Core.Path.{refl, ap}
+use Rattle.de.specs.declared.Sampled.{Sampled}
+use Rattle.replay.proofs.Obeying.{sampled-on, sampled-off}
+use borrow.Author.Needs.{needs}
+use Rattle.replay.proofs.session.sample.Statement.{statement}
+use Rattle.replay.proofs.session.sample.Tie as tie
+
+sample-first-requires : tie.Need-sample-first-requires
+sample-first-requires c κs = search needs
+
+answer-row-requires : tie.Need-answer-row-requires
+answer-row-requires c κs = search needs
+
+returns : tie.Need-returns
+returns c =
+    let a = c .before .before .before .before .before .before .before .before .args in
+    sampled-on (a .run) (a .state) _ (a .number) (a .distribution) _ (c .before .before .before .before .before .before .before .if1 .taken) (ap (λ (s : Sampled). s .state) (c .before .before .before .before .sample-first .ensures)) refl refl refl
+
+malformed-requires : tie.Need-malformed-requires
+malformed-requires c κs = search needs
+
+returns-2 : tie.Need-returns-2
+returns-2 c =
+    let a = c .before .before .before .args in
+    sampled-off (a .run) (a .state) _ (a .number) (a .distribution) _ (c .before .before .if1 .left) (c .malformed .ensures)
+
+pub sample-spec : {M : Type 1} → statement M
+sample-spec =
+    tie.close
+    (tie.spec sample-first-requires answer-row-requires returns malformed-requires returns-2)

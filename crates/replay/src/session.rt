@@ -1,0 +1,196 @@
+// What a line does that asks something: the sampler's call, and the answer's row.
+ghost use mathlib.Core.List.{List};
+ghost use mathlib.Core.Path.{_≡_};
+ghost use Rattle.de.specs.Sample.{sampleOf};
+ghost use Rattle.history.specs.declared.CompletedTrial.{CompletedTrial};
+ghost use Rattle.script.specs.declared.command.Command.the-variants.{New, Sample};
+ghost use Rattle.replay.specs.History.{historyIn};
+ghost use Rattle.replay.specs.Session.{Ended, Answered, Obeyed};
+use crate::reader::Cursor;
+use crate::rows::answer_row;
+use crate::rows::look_row;
+use crate::rows::malformed_row;
+use crate::rows::refused_row;
+use crate::sink::Sink;
+use crate::sink::put;
+use crate::told::first_numbers;
+use crate::told::first_values;
+use crate::whole::state_rows;
+use de::Sampled;
+use de::build::Built;
+use de::build::DESamplerBuilder;
+use distribution::Distribution;
+use evolution::Setup;
+use script::Command;
+use state::State;
+
+// What is kept from question to question, beside the state and the arrays.
+pub struct Run {
+    pub cursor: Cursor,
+    // The entries of the history.
+    pub count: usize,
+    pub sink: Sink,
+    // An accepted `new` came, and no refused one after it.
+    pub accepted: bool,
+    pub stopped: bool,
+}
+
+// The state after a line, and the run.
+pub struct Step {
+    pub state: State,
+    pub run: Run,
+}
+
+// A run whose script breaks the rules ends.
+fn malformed(out: &mut [u8; 8192], run: Run) -> Run
+    ensures { λ r. ⌜ Ended run r ⌝ }
+{
+    let mut r = run;
+    let cursor = r.cursor;
+    let sink = r.sink;
+    let s = malformed_row(out, sink, cursor.line);
+    r.sink = s;
+    r.stopped = true;
+    r
+}
+
+// A set-up empties the history, a refused one too.
+fn new(out: &mut [u8; 8192], run: Run, state: State, setup: Setup) -> Step
+    ensures { λ r. ⌜ ((h : List CompletedTrial) → Obeyed run state h (New setup) r) ⌝ }
+{
+    let mut r = run;
+    r.count = 0;
+    let sink = r.sink;
+    let builder = DESamplerBuilder { setup };
+    let built = builder.build();
+    match built {
+        Built::Accepted(checked) => {
+            let s = put(out, sink, b"new\n");
+            r.sink = s;
+            r.accepted = true;
+            let fresh = de::build::new_state(checked);
+            Step {
+                state: fresh,
+                run: r,
+            }
+        }
+        Built::Refused(refusal) => {
+            let s = refused_row(out, sink, refusal);
+            r.sink = s;
+            r.accepted = false;
+            Step { state, run: r }
+        }
+    }
+}
+
+// The sample call with the first n entries of the history.
+fn sample_first<'a>(
+    state: State,
+    distribution: Distribution,
+    number: u64,
+    numbers: &'a [u64],
+    values: &'a [f64],
+    n: usize,
+) -> Sampled
+    ensures { λ r. ⌜ r ≡ sampleOf state distribution number (historyIn (now (numbers .entry)) (now (values .entry)) n) ⌝ }
+{
+    de::sample::sample_slices(
+        state,
+        distribution,
+        number,
+        first_numbers(numbers, n),
+        first_values(values, n),
+    )
+}
+
+// A sample line, where there is a state.
+fn sample<'a>(
+    out: &mut [u8; 8192],
+    run: Run,
+    state: State,
+    number: u64,
+    distribution: Distribution,
+    numbers: &'a [u64; 65536],
+    values: &'a [f64; 65536],
+) -> Step
+    ensures { λ r. ⌜ Obeyed run state (historyIn (now (numbers .entry)) (now (values .entry)) (run .count)) (Sample number distribution) r ⌝ }
+{
+    if run.accepted {
+        let mut r = run;
+        let sampled = sample_first(state, distribution, number, numbers, values, r.count);
+        let answer = sampled.answer;
+        let after = sampled.state;
+        let sink = r.sink;
+        let s = answer_row(out, sink, answer, sampled.draws);
+        r.sink = s;
+        return Step {
+            state: after,
+            run: r,
+        };
+    }
+    Step {
+        state,
+        run: malformed(out, run),
+    }
+}
+
+// A look line, where there is a state.
+fn look(out: &mut [u8; 8192], run: Run, state: State) -> Run
+    ensures { λ r. ⌜ Answered run r ⌝ }
+{
+    if run.accepted {
+        let mut r = run;
+        let looked = de::look::look(state);
+        let sink = r.sink;
+        let s = look_row(out, sink, looked);
+        r.sink = s;
+        return r;
+    }
+    malformed(out, run)
+}
+
+// A state line, where there is a state.
+fn show(out: &mut [u8; 8192], run: Run, state: State) -> Run
+    ensures { λ r. ⌜ Answered run r ⌝ }
+{
+    if run.accepted {
+        let mut r = run;
+        let sink = r.sink;
+        let s = state_rows(out, sink, state);
+        r.sink = s;
+        return r;
+    }
+    malformed(out, run)
+}
+
+// A line that is not settled by the history alone.
+pub fn obey<'a>(
+    out: &mut [u8; 8192],
+    run: Run,
+    state: State,
+    command: Command,
+    numbers: &'a [u64; 65536],
+    values: &'a [f64; 65536],
+) -> Step
+    ensures { λ r. ⌜ Obeyed run state (historyIn (now (numbers .entry)) (now (values .entry)) (run .count)) command r ⌝ }
+{
+    match command {
+        Command::New(setup) => new(out, run, state, setup),
+        Command::Sample {
+            number,
+            distribution,
+        } => sample(out, run, state, number, distribution, numbers, values),
+        Command::Look => Step {
+            state,
+            run: look(out, run, state),
+        },
+        Command::State => Step {
+            state,
+            run: show(out, run, state),
+        },
+        _ => Step {
+            state,
+            run: malformed(out, run),
+        },
+    }
+}
