@@ -1,4 +1,4 @@
-//! A line of a script in the language of the program `replay` (REPLAY.md). Written from that page, not from the Rust.
+//! A line of a script in the language of the program `replay` (docs/SCRIPTS.md). Written from that page, not from the Rust.
 
 use crate::distribution::{CategoricalDistribution, Distribution, FloatDistribution, IntDistribution};
 use crate::sampler::de::DEStrategy;
