@@ -2,19 +2,19 @@
 use Prim.Native.Nat.{ℕ, _+_, _≤_, _<_}
 use mathlib.Core.Path.{_≡_, refl, sym, ap, subst, _∙_}
 use mathlib.Core.Logic.{_≢_}
-use mathlib.Core.Bool.{Bool, true, false, not, _&&_, cond, true≢false}
-use mathlib.Core.List.{List, []}
+use mathlib.Core.Bool.{Bool, true, false, not, _&&_}
+use mathlib.Core.List.{List}
 use mathlib.Core.Option.{Option, none, some}
 use native.Mathlib.Omega.{arith}
 use borrow.Author.Tests.{leb-false}
 use lib.Dec.{leb}
-use lib.Ieee.{Float, nan}
+use lib.Ieee.{Float}
 use lib.ListN.{length, take}
 use Rattle.distribution.specs.Validate.{judged, verdictOf}
 use Rattle.distribution.specs.declared.Distribution.{Distribution}
 use Rattle.distribution.specs.declared.Verdict.the-variants.{Valid}
 use Rattle.evolution.specs.declared.Setup.{Setup}
-use Rattle.ledger.specs.Words.{orElse, refuseIf, has, isNone, All}
+use Rattle.ledger.specs.Words.{orElse, refuseIf, has}
 use Rattle.ledger.specs.State as Plain
 use Rattle.ledger.specs.Sample.{discovers}
 use Rattle.ledger.specs.Soundness.{Sound}
@@ -22,7 +22,6 @@ use Rattle.ledger.proofs.Lists.{none≢some}
 use Rattle.kernel.specs.De.{de, codeGen}
 use Rattle.kernel.proofs.Kernel.{de-laws}
 use Rattle.state.specs.Setup.{setupVerdict, isValid}
-use Rattle.state.specs.Sound.{soundState}
 use Rattle.state.specs.View.{view, laid, sizeIn, firstIn}
 use Rattle.state.specs.declared.State.{State}
 use Rattle.state.proofs.Measured.{Measured}

@@ -4,7 +4,7 @@ use Prim.Native.Nat.{ℕ, _+_}
 use lib.Dec.{leb}
 use lib.ListN.{length}
 use mathlib.Core.Path.{_≡_, refl, sym, ap, subst, _∙_}
-use mathlib.Core.Bool.{Bool, true, false, not, _&&_, cond}
+use mathlib.Core.Bool.{Bool, true, false, not, _&&_}
 use mathlib.Core.List.{List}
 use mathlib.Core.Option.{Option, none, some}
 use Rattle.distribution.specs.Refusals.{refusalNumber}
@@ -16,12 +16,12 @@ use Rattle.evolution.specs.declared.Setup.{Setup}
 use Rattle.ledger.specs.Words.{orElse, refuseIf, isNone, has}
 use Rattle.ledger.specs.Call.{Call, callRefusal, anyBad}
 use Rattle.ledger.specs.State as Plain
-use Rattle.ledger.specs.State.{refused, given, Result, fresh}
+use Rattle.ledger.specs.State.{refused, given, fresh}
 use Rattle.ledger.specs.Assignment.{Accepted}
 use Rattle.ledger.specs.Soundness.{Sound, soundTest}
 use Rattle.ledger.specs.Sample.{discovers, step, sample, outcome, stateRefusal, accept}
 use Rattle.ledger.specs.Closing.{counted}
-use Rattle.ledger.specs.Sampler.{Sampler, definition, viewed, returnsFrom, Meets}
+use Rattle.ledger.specs.Sampler.{definition, viewed, returnsFrom, Meets}
 use Rattle.ledger.specs.Claim.{Demand3}
 use Rattle.ledger.proofs.Sound.{step-sound, fresh-sound}
 use Rattle.ledger.proofs.Lists.{T→true}
@@ -37,7 +37,7 @@ use Rattle.state.proofs.Laid.{view-laid, laid-sound}
 use Rattle.de.specs.Answer.{answerOf, plainAnswer, refusalNumbered}
 use Rattle.de.specs.Build.{freshState}
 use Rattle.de.specs.Program.{ran, program}
-use Rattle.de.specs.Sample.{sampleOf, callOf, laidResult, unsound}
+use Rattle.de.specs.Sample.{sampleOf, laidResult}
 
 -- a refusal that the code's enum has
 abbrev Numbered : Option ℕ → Type 0

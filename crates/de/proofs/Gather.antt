@@ -10,7 +10,7 @@ use native.Mathlib.Omega.{arith}
 use borrow.Author.Tests.{leb-true, le-leb}
 use lib.Dec.{leb, eqb}
 use lib.Ieee.{Float, nan}
-use lib.ListN.{length, getD, take, length-map, length-replicate, List·getD-append, List·getD-map, replicate}
+use lib.ListN.{length, getD, take, length-map, List·getD-append, List·getD-map, replicate}
 use lib.Seq.{getD-take, length-take-le}
 use Rattle.distribution.specs.declared.Distribution.{Distribution}
 use Rattle.history.specs.Entry.{isBad, countedValue}
@@ -25,10 +25,9 @@ use Rattle.ledger.proofs.Lists.{none≢some}
 use Rattle.ledger.proofs.Results.{counted-is}
 use Rattle.ledger.specs.Kernel.{Laws}
 use Rattle.ledger.specs.Call.{anyBad}
-use Rattle.ledger.specs.State.{Trial, numbers, State as Plain}
+use Rattle.ledger.specs.State.{Trial, numbers}
 use Rattle.ledger.specs.Closing.{scan, resultsOf, counted}
 use Rattle.kernel.specs.De.{de}
-use Rattle.state.specs.Sound.{soundState}
 use Rattle.state.specs.Blank.{blankTrial}
 use Rattle.state.specs.View.{view, sizeIn, trialOf}
 use Rattle.state.specs.declared.State.{State}

@@ -7,7 +7,7 @@ use native.Mathlib.Omega.{arith}
 use borrow.Author.Tests.{eq-eqb, ne-eqb}
 use lib.Dec.{eqb}
 use lib.Ieee.{Float}
-use lib.ListN.{length, getD, take, length-map}
+use lib.ListN.{length, take, length-map}
 use lib.Seq.{length-take-le}
 use Rattle.rng_util.specs.Many.{padTo, listed}
 use Rattle.common.specs.Bounds.{zeroF}
@@ -24,7 +24,6 @@ use Rattle.state.proofs.Measured.{Measured}
 use Rattle.state.proofs.Tidy as Tidy
 use Rattle.state.proofs.Whole.{Few}
 use Rattle.de.specs.declared.look.LookAnswer.the-variants.{Refused, Nothing, Best}
-use Rattle.de.specs.declared.look.Looked.{Looked}
 use Rattle.de.specs.Look.{valueAt, bare, seen, lookOf}
 
 same-values : (ms : List Member) → map (λ (m : Member). m .value) ms ≡ Plain.values de (map parentOf ms)

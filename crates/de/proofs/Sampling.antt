@@ -1,9 +1,9 @@
 -- The whole call by its tests: which refusal is given, and that what is returned is the definition's, laid out.
-use Prim.Native.Nat.{ℕ, suc, _+_, _≤_, _<_}
-use mathlib.Core.Path.{_≡_, refl, sym, ap, subst, _∙_}
+use Prim.Native.Nat.{ℕ, suc, _+_}
+use mathlib.Core.Path.{_≡_, refl, sym, ap, _∙_}
 use mathlib.Core.Logic.{_≢_}
 use mathlib.Core.Bool.{Bool, true, false, not, _&&_, cond, true≢false}
-use mathlib.Core.List.{List, [], _∷_, map}
+use mathlib.Core.List.{List, [], _∷_}
 use mathlib.Core.Option.{Option, none, some}
 use native.Mathlib.Omega.{arith}
 use borrow.Author.Tests.{le-leb, lt-leb}
@@ -19,7 +19,7 @@ use Rattle.distribution.specs.declared.Verdict.{Verdict}
 use Rattle.distribution.specs.declared.Verdict.the-variants as V′
 use Rattle.evolution.specs.declared.Setup.{Setup}
 use Rattle.history.specs.declared.Gathered.{Gathered}
-use Rattle.ledger.specs.Words.{orElse, refuseIf, has, isNone, All}
+use Rattle.ledger.specs.Words.{orElse, refuseIf, has, isNone}
 use Rattle.ledger.specs.State as Plain
 use Rattle.ledger.specs.Assignment.{placeIn, Accepted as Taken}
 use Rattle.ledger.specs.Sample.{discovers, outcome}
@@ -32,13 +32,11 @@ use Rattle.state.specs.declared.State.{State}
 use Rattle.state.proofs.Measured.{Measured}
 use Rattle.state.proofs.Tidy as Tidy
 use Rattle.state.proofs.Whole.{Few}
-use Rattle.assignment.specs.Laid.{laidGiven}
 use Rattle.assignment.specs.Raw.{placeOf}
 use Rattle.assignment.specs.declared.Accepted.{Accepted}
 use Rattle.assignment.proofs.Refine.{place-laid}
 use Rattle.closing.specs.Raw.{closesNow}
 use Rattle.de.specs.declared.Answer.the-variants.{Setting, Refused}
-use Rattle.de.specs.declared.Sampled.{Sampled}
 use Rattle.de.specs.Answer.{refusalNumbered}
 use Rattle.de.specs.Refusing.{countRefusal, orVerdict, firstRefusal}
 use Rattle.de.specs.Sample.{laidResult, unsound}

@@ -3,8 +3,6 @@ use Prim.Native.Nat.{ℕ}
 use mathlib.Core.Path.{_≡_, refl, sym, ap, subst, _∙_}
 use mathlib.Core.Bool.{Bool, true, false}
 use mathlib.Core.List.{List}
-use mathlib.Core.Option.{Option}
-use lib.Ieee.{Float}
 use Rattle.distribution.specs.declared.Distribution.{Distribution}
 use Rattle.history.specs.Scan.{gathered}
 use Rattle.history.specs.declared.CompletedTrial.{CompletedTrial}
@@ -16,7 +14,7 @@ use Rattle.state.proofs.Measured.{Measured}
 use Rattle.state.proofs.Tidy.{sound-few}
 use Rattle.de.specs.Ask.{wantedCount, firstNumbers, askedOf}
 use Rattle.de.specs.Gathered.{sampledOn, rowIn}
-use Rattle.de.specs.Sample.{sampleOf, unsound}
+use Rattle.de.specs.Sample.{sampleOf}
 use Rattle.de.specs.Whole.{Numbers}
 use Rattle.de.specs.declared.ask.Asked.{Asked}
 use Rattle.de.proofs.Gather.{gathered-call, gathered-numbers}

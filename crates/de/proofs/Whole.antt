@@ -1,10 +1,10 @@
 -- A sample call that no refusal stops, part by part: from a sound state laid out, what each part of the code requires holds, and what they make together is the
 -- definition's. `Acceptable` is what the tests before leave.
-use Prim.Native.Nat.{ℕ, zero, suc, _+_, _*_, _^_, _≤_, _<_, max}
-use mathlib.Core.Path.{_≡_, refl, sym, ap, subst, _∙_}
+use Prim.Native.Nat.{ℕ, _+_, _*_, _≤_, _<_}
+use mathlib.Core.Path.{_≡_, refl, sym, ap, _∙_}
 use mathlib.Core.Logic.{_≢_}
 use mathlib.Core.Bool.{Bool, true, false, not, _&&_, cond, true≢false}
-use mathlib.Core.List.{List, [], _∷_, map}
+use mathlib.Core.List.{List, [], map}
 use mathlib.Core.Option.{Option, none, some}
 use native.Mathlib.Omega.{arith}
 use native.Mathlib.Nat.{mul-le-mul}
@@ -13,7 +13,7 @@ use lib.Ieee.{Float, nan}
 use lib.ListN.{length, take, getElem?}
 use Rattle.rng_util.specs.Gen.{Made}
 use Rattle.rng_util.specs.declared.Gen.{Gen}
-use Rattle.distribution.specs.Validate.{judged, verdictOf}
+use Rattle.distribution.specs.Validate.{judged}
 use Rattle.distribution.specs.declared.Distribution.{Distribution}
 use Rattle.distribution.specs.declared.DimensionInfo.{DimensionInfo}
 use Rattle.distribution.specs.declared.Refusal.{Refusal}
@@ -34,20 +34,20 @@ use Rattle.ledger.proofs.Results.{Counted}
 use Rattle.ledger.proofs.Steps.{slots-length, closing}
 use lib.Seq.{length-take-le}
 use lib.ListN.{length-map}
-use Rattle.ledger.specs.Words.{_>>=_, orElse, refuseIf, has, isNone, All}
+use Rattle.ledger.specs.Words.{_>>=_, has, All}
 use Rattle.ledger.specs.Kernel as K
 use Rattle.ledger.specs.Kernel.{Laws}
 use Rattle.ledger.specs.State as Plain
 use Rattle.ledger.specs.Assignment.{placeIn, Accepted as Step, assign}
 use Rattle.ledger.specs.Closing as C
-use Rattle.ledger.specs.Sample.{discovers, discover, begin}
+use Rattle.ledger.specs.Sample.{begin}
 use Rattle.ledger.specs.Soundness.{Sound, Running}
 use Rattle.kernel.specs.De.{de, codeGen}
 use Rattle.state.specs.Setup.{setupVerdict, isValid, factorFails, rateFails, sizeFails}
 use Rattle.state.specs.View.{laid}
 use Rattle.state.specs.declared.State.{State}
-use Rattle.assignment.specs.Raw.{Ready, Complete, rawActive, rawDiscovery, rawBegin, missing}
-use Rattle.assignment.specs.Laid.{laidGiven, laidAccepted, laidBegun}
+use Rattle.assignment.specs.Raw.{Ready, Complete, rawActive, rawDiscovery, rawBegin}
+use Rattle.assignment.specs.Laid.{laidAccepted, laidBegun}
 use Rattle.assignment.specs.declared.Accepted.{Accepted}
 use Rattle.assignment.specs.declared.discovery.Begun.{Begun}
 use Rattle.assignment.proofs.Refine.{Open, dims-laid, active-laid}
@@ -57,7 +57,7 @@ use Rattle.closing.specs.Raw.{Closable, rawClose}
 use Rattle.closing.specs.declared.Closed.{Closed}
 use Rattle.closing.proofs.Refine.{laidClosed, close-is}
 use Rattle.de.specs.Sample.{callOf}
-use Rattle.de.specs.Gathered.{samplingOn, discoveryOn, acceptOn}
+use Rattle.de.specs.Gathered.{samplingOn, discoveryOn}
 use Rattle.de.specs.Whole.{taken, laidTaken}
 
 -- ---- a result, taken or not

@@ -1,6 +1,6 @@
 -- What a call asks of its history before it is scanned: the first N open trials' results, where "at least N trials are assigned".
 use Prim.Native.Nat.{ℕ, _-_, _^_, min, max}
-use mathlib.Core.Bool.{Bool, true, false, _&&_, cond}
+use mathlib.Core.Bool.{Bool, false, cond}
 use mathlib.Core.List.{List, [], _∷_}
 use lib.Dec.{leb}
 use lib.ListN.{length, getD, replicate}

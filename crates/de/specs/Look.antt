@@ -1,7 +1,7 @@
 -- "a look call giving best slot and values, or nothing before the first closing; closed generations; idle generations"
 use Prim.Native.Nat.{ℕ}
 use mathlib.Core.Bool.{cond}
-use mathlib.Core.List.{List, [], map}
+use mathlib.Core.List.{List, []}
 use lib.Dec.{eqb}
 use lib.Ieee.{Float}
 use lib.ListN.{length, getD}

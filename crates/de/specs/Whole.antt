@@ -5,7 +5,7 @@ use mathlib.Core.Option.{Option, none, some}
 use lib.Ieee.{Float, nan}
 use mathlib.Core.Logic.{_≢_}
 use mathlib.Core.Path.{_≡_}
-use Prim.Native.Nat.{ℕ, _≤_}
+use Prim.Native.Nat.{ℕ}
 use lib.ListN.{length, take}
 use Rattle.distribution.specs.declared.Distribution.{Distribution}
 use Rattle.evolution.specs.declared.Setup.{Setup}

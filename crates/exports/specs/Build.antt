@@ -1,5 +1,5 @@
 -- The set-up call in numbers: the builder's own verdict, unless a number names no case.
-use mathlib.Core.Bool.{true, false, cond}
+use mathlib.Core.Bool.{true, cond}
 use Rattle.distribution.specs.Refusals.{refusalNumber}
 use Rattle.de.specs.Build.{builtOf, freshState}
 use Rattle.de.specs.declared.build.Built.{Built}

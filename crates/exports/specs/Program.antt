@@ -1,5 +1,4 @@
 -- The library as a sampler that demand 3 is said of: the lent memory, the view of what it holds, the memory after an accepted set-up call, and the sample call.
-use Prim.Native.Nat.{ℕ}
 use mathlib.Core.Bool.{cond}
 use lib.Dec.{eqb}
 use Rattle.distribution.specs.declared.ParamValue.the-variants as P

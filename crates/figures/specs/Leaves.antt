@@ -12,7 +12,6 @@ use Rattle.distribution.specs.declared.FloatStep.the-variants as F
 use Rattle.distribution.specs.declared.IntStep.the-variants as I
 use Rattle.distribution.specs.declared.Distribution.{Distribution}
 use Rattle.distribution.specs.declared.Distribution.the-variants as D
-use Rattle.distribution.specs.declared.ParamValue.{ParamValue}
 use Rattle.distribution.specs.declared.ParamValue.the-variants as P
 use Rattle.common.specs.FromInternal.{fromInternal}
 use Rattle.history.specs.History.{lastValue}

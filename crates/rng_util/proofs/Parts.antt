@@ -3,9 +3,9 @@
 use Prim.Native.Nat.{ℕ, zero, suc, _+_, _-_, _*_, _<_, _≤_}
 use mathlib.Core.Path.{_≡_, refl, sym, ap, _∙_}
 use mathlib.Core.List.{List, [], _∷_, _++_, append-assoc, append-nil}
-use native.Mathlib.Nat.{sub-zero, le-trans}
+use native.Mathlib.Nat.{sub-zero}
 use native.Mathlib.Omega.{arith}
-use lib.ListN.{length, set, getD, replicate, length-append, length-replicate}
+use lib.ListN.{length, set, replicate, length-append, length-replicate}
 use lib.Seq.{set-append-seam}
 use Rattle.rng_util.specs.declared.Gen.{Gen}
 use Rattle.rng_util.specs.Gen.{Made, made}

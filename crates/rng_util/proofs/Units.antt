@@ -1,10 +1,9 @@
 -- A unit is exactly (output >> 11) / 2 ^ 53: so it is finite, at least 0 and below 1.
 use mathlib.Core.Path.{_≡_, refl, sym, ap, _∙_, subst}
-use mathlib.Core.Bool.{Bool, true, false, true≢false}
-use Prim.Native.Nat.{ℕ, _+_, _-_, _*_, _/_, _^_, _≤_, _<_, zero-le}
-use native.Mathlib.Nat.{mul-one, one-mul, mul-assoc, mul-comm, mul-right-comm, le-of-lt, mul-pos, lt-of-mul-lt-mul-right, lt-trans, mul-lt-mul-of-pos-right, mod-lt, lt-of-le-of-lt}
-use native.Mathlib.Omega.{arith}
-use lib.IntN.{ℤ, pos, negsuc}
+use mathlib.Core.Bool.{true, false, true≢false}
+use Prim.Native.Nat.{ℕ, _*_, _/_, _^_, _<_, zero-le}
+use native.Mathlib.Nat.{mul-one, one-mul, mul-assoc, mul-comm, le-of-lt, mul-pos, lt-of-mul-lt-mul-right, lt-trans, mul-lt-mul-of-pos-right, mod-lt, lt-of-le-of-lt}
+use lib.IntN.{pos, negsuc}
 use lib.Dec.{T, lit<, lt→ltb}
 use lib.Pow.{shr-lt, shl-lt, shr-le, pow-pos, pow-lt}
 use lib.Ieee.{Float, nan, inf, fin, binary64, up, down, mul, ofInt, round, lt, le}

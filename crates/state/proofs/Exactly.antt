@@ -4,7 +4,7 @@ use Prim.Native.Nat.{_≤_}
 use native.Mathlib.Omega.{arith}
 use mathlib.Core.Path.{_≡_, refl, ap, _∙_}
 use mathlib.Core.Logic.{_↔_}
-use mathlib.Core.Bool.{Bool, true, false, not}
+use mathlib.Core.Bool.{Bool, true, false}
 use Rattle.evolution.specs.declared.Setup.{Setup}
 use Rattle.ledger.specs.Kernel.{Laws}
 use Rattle.ledger.specs.State as Plain

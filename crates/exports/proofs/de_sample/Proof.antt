@@ -47,7 +47,6 @@ use Rattle.distribution.proofs.Distribution.Laws as D′
 use Rattle.history.specs.declared.CompletedTrial.{CompletedTrial}
 use Rattle.history.proofs.CompletedTrial as T
 use Rattle.history.proofs.Called.{returned}
-use Rattle.state.specs.declared.State.{State}
 use Rattle.state.proofs.State as S
 use Rattle.state.proofs.State.Laws as S′
 use Rattle.de.specs.Sample.{sampleOf}

@@ -6,7 +6,7 @@ use lib.IntN.{ℤ, pos, negsuc, natAbs}
 use lib.Dec.{T}
 use lib.Signed.{leZ, nonNeg}
 use mir.Syntax.{w64}
-use mir.Val.{Fits, SFits, toZ, ofZ}
+use mir.Val.{Fits, SFits}
 use mir.ValLaws.{toZ-ofZ}
 use borrow.Author.Needs.{needs}
 use Rattle.bench.proofs.clock.natural.Statement.{statement}

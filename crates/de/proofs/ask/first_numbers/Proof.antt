@@ -1,6 +1,6 @@
 -- `first_numbers` meets its contract: `Fill` with the trials' numbers.
 use Prim.Native.Nat.{_≤_, _-_}
-use mathlib.Core.Path.{_≡_, refl}
+use mathlib.Core.Path.{refl}
 use native.Mathlib.Omega.{arith}
 use Rattle.candidates.proofs.Fill.{Fill, fill-first, fill-again, fill-last}
 use Rattle.de.specs.Ask.{numberAt}

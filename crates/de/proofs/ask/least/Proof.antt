@@ -1,5 +1,5 @@
 -- `least` meets its contract: what is left of the fold from here is the whole.
-use Prim.Native.Nat.{_≤_, _-_, _^_, min}
+use Prim.Native.Nat.{_≤_, _-_, min}
 use mathlib.Core.Path.{_≡_, refl, sym, _∙_}
 use native.Mathlib.Omega.{arith}
 use borrow.Author.Needs.{needs}

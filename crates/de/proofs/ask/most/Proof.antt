@@ -1,5 +1,5 @@
 -- `most` meets its contract: what is left of the fold from here is the whole.
-use Prim.Native.Nat.{_≤_, _-_, _^_, max}
+use Prim.Native.Nat.{_≤_, _-_, max}
 use mathlib.Core.Path.{_≡_, refl, sym, _∙_}
 use native.Mathlib.Omega.{arith}
 use borrow.Author.Needs.{needs}

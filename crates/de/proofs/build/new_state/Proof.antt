@@ -1,5 +1,4 @@
 -- `new_state` meets its contract: blank places all through, as the empty plain state is laid out.
-use mathlib.Core.Path.{refl}
 use borrow.Author.Needs.{needs}
 use Rattle.ledger.specs.State.{fresh}
 use Rattle.state.specs.View.{laid}

@@ -1,5 +1,5 @@
 -- `look` meets its contract: the state is judged, then whether a generation has closed; Looking has each way out.
-use mathlib.Core.Path.{_≡_, sym, _∙_}
+use mathlib.Core.Path.{sym, _∙_}
 use borrow.Author.Needs.{needs}
 use Rattle.state.proofs.Measured.{measured}
 use Rattle.de.proofs.Looking as By

@@ -1,6 +1,6 @@
 -- `slot_values` meets its contract: `Fill` with the parents' values.
 use Prim.Native.Nat.{_≤_, _-_}
-use mathlib.Core.Path.{_≡_, refl}
+use mathlib.Core.Path.{refl}
 use native.Mathlib.Omega.{arith}
 use Rattle.candidates.proofs.Fill.{Fill, fill-first, fill-again, fill-last}
 use Rattle.common.specs.Bounds.{zeroF}

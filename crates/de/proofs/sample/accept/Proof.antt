@@ -1,6 +1,5 @@
 -- `accept` meets its contract: each branch is the definition's on the view (Accepting), with the tests that lead there.
-use mathlib.Core.Path.{_≡_, sym, _∙_}
-use native.Mathlib.Omega.{arith}
+use mathlib.Core.Path.{sym, _∙_}
 use borrow.Author.Needs.{needs}
 use Rattle.state.proofs.Measured.{measured}
 use Rattle.de.proofs.Accepting as By

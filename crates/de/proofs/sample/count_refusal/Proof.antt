@@ -1,5 +1,4 @@
 -- `count_refusal` meets its contract: each way out has the tests that lead there.
-use borrow.Author.Needs.{needs}
 use borrow.Author.Tests.{le-leb, lt-leb}
 use native.Mathlib.Omega.{arith}
 use Rattle.de.specs.Refusing.{countRefusal}

@@ -1,5 +1,5 @@
 -- `refusal_of` meets its contract: by what `validate` answers, then by the NaN test.
-use mathlib.Core.Path.{_≡_, refl, sym, ap, _∙_}
+use mathlib.Core.Path.{sym, ap, _∙_}
 use mathlib.Core.Bool.{Bool}
 use borrow.Author.Needs.{needs}
 use Rattle.distribution.specs.Validate.{refusedIf}

@@ -1,6 +1,5 @@
 -- `sample_any` meets its contract: the state is judged, then the refusals, then the call is accepted; Sampling has each way out.
 use mathlib.Core.Path.{_≡_, sym, _∙_}
-use native.Mathlib.Omega.{arith}
 use borrow.Author.Needs.{needs}
 use lib.ListN.{length}
 use Rattle.state.proofs.Measured.{measured}

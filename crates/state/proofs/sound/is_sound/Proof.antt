@@ -6,12 +6,10 @@ use mathlib.Core.Bool.{true, _&&_}
 use borrow.Author.Needs.{needs}
 use borrow.Author.Tests.{le-leb, lt-leb}
 use lib.Dec.{leb}
-use lib.ListN.{take}
-use Rattle.ledger.specs.Words.{differing}
 use Rattle.kernel.specs.Fits.{fits}
-use Rattle.state.specs.Blank.{isBlankDim, isBlankTrial, isBlankCandidate, isBlankMember}
+use Rattle.state.specs.Blank.{isBlankDim, isBlankCandidate, isBlankMember}
 use Rattle.state.specs.View.{candidateCount, parentCount}
-use Rattle.state.specs.Places.{placesFit, passes, nextFits, memberFits, numbersOf}
+use Rattle.state.specs.Places.{placesFit, passes, memberFits}
 use Rattle.state.proofs.Flags.{failed, passed, true-and, and-true}
 use Rattle.state.proofs.Measured.{Measured, measured}
 use Rattle.state.proofs.Parts.{dimsOf}
