@@ -1,6 +1,9 @@
 //! The differential evolution sampler whose code is proved equal to a written definition (crates/exports of this
 //! repository), behind safe types.
 //!
+//! A call needs about 1 MB of stack, which Rust's threads have unless they were told otherwise. Nothing is shared between
+//! samplers.
+//!
 //! A campaign asks the sampler for each trial's settings, measures, and lends the measured values back as the history:
 //!
 //! ```
