@@ -103,7 +103,8 @@ ready-laid S m c N g o few pass trials valid draws =
 
 -- ---- the end of discovery
 
-made-draws : {A : Type 0} (bad : Bool) (x : Made A) (r : L.Made ℕ A) → unlessNan bad x ≡ some r → r .gen .draws ≡ x .after .draws
+-- what is made and not refused by 11 has drawn what it drew
+pub made-draws : {A : Type 0} (bad : Bool) (x : Made A) (r : L.Made ℕ A) → unlessNan bad x ≡ some r → r .gen .draws ≡ x .after .draws
 made-draws true x r e = absurd (none≢some e)
 made-draws {A} false x r e = sym (ap (λ (y : L.Made ℕ A). y .gen .draws) (some-inj e))
 

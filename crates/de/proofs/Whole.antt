@@ -3,7 +3,7 @@
 use Prim.Native.Nat.{ℕ, _+_, _*_, _≤_, _<_}
 use mathlib.Core.Path.{_≡_, refl, sym, ap, _∙_}
 use mathlib.Core.Logic.{_≢_}
-use mathlib.Core.Bool.{Bool, true, false, not, _&&_, cond, true≢false}
+use mathlib.Core.Bool.{true, false, not, _&&_, true≢false}
 use mathlib.Core.List.{List, [], map}
 use mathlib.Core.Option.{Option, none, some}
 use native.Mathlib.Omega.{arith}
@@ -16,9 +16,6 @@ use Rattle.rng_util.specs.declared.Gen.{Gen}
 use Rattle.distribution.specs.Validate.{judged}
 use Rattle.distribution.specs.declared.Distribution.{Distribution}
 use Rattle.distribution.specs.declared.DimensionInfo.{DimensionInfo}
-use Rattle.distribution.specs.declared.Refusal.{Refusal}
-use Rattle.distribution.specs.declared.Refusal.the-variants.{MutationFactor, CrossoverRate, PopulationSize}
-use Rattle.distribution.specs.declared.Verdict.the-variants.{Valid, Refused}
 use Rattle.candidates.specs.declared.Candidate.{Candidate}
 use Rattle.candidates.specs.Space.{spaceOf}
 use Rattle.candidates.proofs.Passed.{few-continuous}
@@ -28,8 +25,8 @@ use Rattle.evolution.specs.declared.DEStrategy.{DEStrategy}
 use Rattle.evolution.specs.declared.DEStrategy.the-variants.{Rand1, Best1, CurrentToBest1}
 use Rattle.evolution.specs.declared.Setup.{Setup}
 use Rattle.evolution.proofs.Ceiling.{tries, ceiling}
-use Rattle.kernel.specs.De.{memberOf, nextsOf, unlessNan}
-use Rattle.ledger.proofs.Lists.{bind-some, some-inj, none≢some}
+use Rattle.kernel.specs.De.{memberOf, nextsOf}
+use Rattle.ledger.proofs.Lists.{bind-some, some-inj}
 use Rattle.ledger.proofs.Results.{Counted}
 use Rattle.ledger.proofs.Steps.{slots-length, closing}
 use lib.Seq.{length-take-le}
@@ -43,8 +40,9 @@ use Rattle.ledger.specs.Closing as C
 use Rattle.ledger.specs.Sample.{begin}
 use Rattle.ledger.specs.Soundness.{Sound, Running}
 use Rattle.kernel.specs.De.{de, codeGen}
-use Rattle.state.specs.Setup.{setupVerdict, isValid, factorFails, rateFails, sizeFails}
+use Rattle.state.specs.Setup.{setupVerdict, isValid}
 use Rattle.state.specs.View.{laid}
+use Rattle.state.proofs.Sizes.{size-passes}
 use Rattle.state.specs.declared.State.{State}
 use Rattle.assignment.specs.Raw.{Ready, Complete, rawActive, rawDiscovery, rawBegin}
 use Rattle.assignment.specs.Laid.{laidAccepted, laidBegun}
@@ -66,17 +64,6 @@ pub taken-laid : (S : Setup) (m : Plain.State de) (o : Option (Step de)) → tak
 taken-laid S m none = refl
 taken-laid S m (some a) = refl
 
--- a set-up that passes 1 to 3 passes 3
-pub size-passes : (S : Setup) → isValid (setupVerdict S) ≡ true → sizeFails (S .«population_size») ≡ false
-unfolding setupVerdict
-size-passes S e = last (factorFails (S .«mutation_factor»)) (rateFails (S .«crossover_rate»)) (sizeFails (S .«population_size»)) MutationFactor CrossoverRate PopulationSize e
-  where
-    last : (a b c : Bool) (q r s : Refusal) → isValid (cond a (Refused q) (cond b (Refused r) (cond c (Refused s) Valid))) ≡ true → c ≡ false
-    last true b c q r s e = absurd (true≢false (sym e))
-    last false true c q r s e = absurd (true≢false (sym e))
-    last false false true q r s e = absurd (true≢false (sym e))
-    last false false false q r s e = refl
-
 -- new candidates of a later generation: few draws
 tries-few : (s : DEStrategy) → tries s ≤ 3072
 tries-few Rand1 = omega arith
@@ -86,10 +73,6 @@ tries-few CurrentToBest1 = omega arith
 product-few : (p q t : ℕ) → p ≤ 160 → q ≤ 16 → t ≤ 3072 → p * (t + q) ≤ 160 * 3088
 product-few p q t h l r = mul-le-mul h (let z : t + q ≤ 3088 = omega arith in z)
 
-made-draws : {A : Type 0} (bad : Bool) (x : Made A) (r : K.Made ℕ A) → unlessNan bad x ≡ some r → r .gen .draws ≡ x .after .draws
-made-draws true x r e = absurd (none≢some e)
-made-draws {A} false x r e = sym (ap (λ (y : K.Made ℕ A). y .gen .draws) (some-inj e))
-
 nexts-draws : (S : Setup) (ds : List DimensionInfo) (ps : List (K.Parent Candidate)) (b : ℕ) (g : K.Gen ℕ) (x : K.Made ℕ (List Candidate)) → de .nexts S ds ps b g ≡ some x → length ps ≤ 160 → length ds ≤ 16
     → x .gen .draws ≤ g .draws + 160 * 3088
 unfolding nextsOf
@@ -97,7 +80,7 @@ nexts-draws S ds ps b g x q h l =
     let r = nextCandidates S (map memberOf ps) b (spaceOf ds) (codeGen g) in
     omega (
       arith,
-      made-draws (anyBad (r .out)) r x q,
+      Meet.made-draws (anyBad (r .out)) r x q,
       ceiling S (map memberOf ps) b ds (codeGen g),
       length-map ps memberOf,
       product-few (length (map memberOf ps)) (length ds) (tries (S .strategy)) (omega (arith, length-map ps memberOf)) l (tries-few (S .strategy)),

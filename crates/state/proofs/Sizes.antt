@@ -19,7 +19,8 @@ row : (a : Bool) (r : Refusal) (v : Verdict) → isValid (refusedIf a r v) ≡ t
 row true r v e = absurd (true≢false (sym e))
 row false r v e = (refl, e)
 
-size-passes : (S : Setup) → isValid (setupVerdict S) ≡ true → sizeFails (S .«population_size») ≡ false
+-- a set-up that passes 1 to 3 passes 3
+pub size-passes : (S : Setup) → isValid (setupVerdict S) ≡ true → sizeFails (S .«population_size») ≡ false
 unfolding setupVerdict
 size-passes S e =
     let one = row (factorFails (S .«mutation_factor»)) MutationFactor _ e in
