@@ -2,7 +2,6 @@
 use Prim.Native.Nat.{ℕ, _≤_}
 use mathlib.Core.Bool.{Bool, true, false, _&&_, cond}
 use mathlib.Core.List.{List}
-use mathlib.Core.Option.{Option, none, some}
 use lib.Dec.{eqb, leb}
 use lib.Ieee.{Float}
 use lib.ListN.{take, replicate}
@@ -34,15 +33,6 @@ isTrue b = b
 -- "exactly when at least N trials are assigned and its history has the first N", after discovery; `found` says of each trial whether the history has it
 unfoldable pub closesNow : Bool → ℕ → ℕ → List Bool → Bool
 closesNow discovered n trials found = discovered && (leb n trials && all isTrue (take n found))
-
--- the row, or nothing
-abbrev pub rowIf : Bool → List Float → Option (List Float)
-rowIf true rs = some rs
-rowIf false rs = none
-
--- the results that are counted, if the generation closes: the first n of rs
-abbrev pub rowIn : State → List Bool → List Float → Option (List Float)
-rowIn s found rs = rowIf (closesNow (s .discovered) (s .n) (s .«n_trials») found) (take (s .n) rs)
 
 -- ---- the slots after it
 

@@ -59,13 +59,16 @@ sampledOn s d n bad row = cond (soundState s) (laidResult (s .setup) (stepOn (s 
 
 -- ---- the counted results, as the history has them and as a scan gathers them
 
+-- the ledger's: nothing before discovery ends
 abbrev pub rowFor : Option ℕ → Plain.State de → List CompletedTrial → Option (List Float)
 rowFor none m h = none
 rowFor (some N) m h = counted de N (Plain.numbers (m .trials)) h
 
+-- the row, or nothing
 abbrev pub rowIf : Bool → List Float → Option (List Float)
 rowIf true vs = some vs
 rowIf false vs = none
 
+-- the results that are counted, if the generation closes: the first n of vs
 abbrev pub rowIn : State → List Bool → List Float → Option (List Float)
 rowIn s found vs = rowIf (closesNow (s .discovered) (s .n) (s .«n_trials») found) (take (s .n) vs)
