@@ -19,6 +19,7 @@ use distribution::Verdict;
 use rng_util::Gen;
 use state::State;
 use state::TrialProgress;
+use state::sound::candidate_count;
 
 // A setting, and the generator after it.
 pub struct DrawnSetting {
@@ -131,7 +132,7 @@ pub fn sample_active(state: State, lent: Distribution, number: u64, from: Gen) -
     let trials = state.trials;
     let n_trials = state.n_trials;
     let place = places::place_of(trials, n_trials, number);
-    let count = places::candidate_count(state.discovered, state.n, n_trials);
+    let count = candidate_count(state.discovered, state.n, n_trials);
     let own = state.candidates[place];
     let a = assign_candidate(place < count, own, dims, n_dims, from);
     let candidate = a.candidate;

@@ -1,6 +1,5 @@
 // The open trials' numbers, and the place of one: the i-th trial has candidate i.
 ghost use mathlib.Core.Path.{_≡_};
-ghost use mathlib.Core.Bool.{cond};
 ghost use Prim.Native.Nat.{_≤_, max};
 ghost use Rattle.rng_util.specs.Many.{padTo};
 ghost use Rattle.ledger.specs.Assignment.{placeIn};
@@ -48,14 +47,4 @@ pub fn larger(a: usize, b: usize) -> usize
     ensures { λ r. ⌜ r ≡ max a b ⌝ }
 {
     if a < b { b } else { a }
-}
-
-// After discovery there are n candidates, and one for each trial past n.
-pub fn candidate_count(discovered: bool, n: usize, n_trials: usize) -> usize
-    ensures { λ r. ⌜ r ≡ cond discovered (max n «n_trials») 0 ⌝ }
-{
-    if discovered {
-        return larger(n, n_trials);
-    }
-    0
 }

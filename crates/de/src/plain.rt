@@ -6,7 +6,6 @@ use crate::Answer;
 use crate::Sampled;
 use crate::sample::refusal_of;
 use assignment::next_dim_after;
-use assignment::places::candidate_count;
 use assignment::places::larger;
 use assignment::places::place_of;
 use assignment::setting_for;
@@ -20,6 +19,7 @@ use rng_util::Gen;
 use state::State;
 use state::TrialProgress;
 use state::setup::is_valid;
+use state::sound::candidate_count;
 
 // Whether a call is plain, and its trial's place. Of the refusals 4 to 10 the last two are for no trial that has a candidate.
 pub struct PlainPlace {

@@ -8,7 +8,6 @@ use crate::sink::put;
 use crate::sink::put_double;
 use crate::sink::put_pattern;
 use crate::sink::put_whole;
-use assignment::places::candidate_count;
 use candidates::Candidate;
 use candidates::continuous_place;
 use distribution::DimIdx;
@@ -18,6 +17,8 @@ use evolution::Member;
 use state::FirstTrial;
 use state::State;
 use state::TrialProgress;
+use state::sound::candidate_count;
+use state::sound::parent_count;
 
 // What a row reads of the dimensions: how many there are, how many are continuous, and which are not.
 pub struct Shape {
@@ -214,11 +215,6 @@ fn head_row(out: &mut [u8; 8192], sink: Sink, state: State) -> Sink {
     let a = put_phase(out, sink, state.discovered);
     let b = put_first(out, a, first);
     put_counts(out, b, state.n, state.n_dims, state.best, state.word)
-}
-
-// N once a generation has closed.
-fn parent_count(closed: u32, n: usize) -> usize {
-    if closed == 0 { 0 } else { n }
 }
 
 // Every line of the state.

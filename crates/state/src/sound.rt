@@ -57,7 +57,7 @@ fn running_counts(named: bool, size: usize, c: Counts) -> bool
 }
 
 // After discovery N candidates, and one for each trial past N.
-fn candidate_count(discovered: bool, n: usize, n_trials: usize) -> usize
+pub fn candidate_count(discovered: bool, n: usize, n_trials: usize) -> usize
     ensures { λ r. ⌜ r ≡ cond discovered (max n «n_trials») 0 ⌝ }
 {
     if discovered {
@@ -70,7 +70,7 @@ fn candidate_count(discovered: bool, n: usize, n_trials: usize) -> usize
 }
 
 // N parents once a generation has closed.
-fn parent_count(closed: u32, n: usize) -> usize
+pub fn parent_count(closed: u32, n: usize) -> usize
     ensures { λ r. ⌜ r ≡ cond (eqb closed 0) 0 n ⌝ }
 {
     if closed == 0 {
