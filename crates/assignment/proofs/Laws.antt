@@ -58,16 +58,18 @@ pub decode-is : (ds : List DimensionInfo) (k : ℕ) (y : Candidate) → decodedB
 unfolding decodedBy decodeOf
 decode-is ds k y = refl
 
+pub decoded-at : (dims : List DimensionInfo) (n : ℕ) (at : DimIdx) (y : Candidate) (ci : Ci) (r : ParamValue) → at .0 < n → ci ≡ continuousPlace (take n dims) at
+    → r ≡ decodedBy (getD dims (at .0) noDim .distribution) at ci y → r ≡ decodeOf (take n dims) (at .0) y
+decoded-at dims n at y ci r h e f =
+    f ∙ ap (λ (x : DimensionInfo). decodedBy (x .distribution) at ci y) (sym (getD-take n dims (at .0) noDim h))
+    ∙ ap (λ (c : Ci). decodedBy (getD (take n dims) (at .0) noDim .distribution) at c y) e
+    ∙ decode-is (take n dims) (at .0) y
+
 module _ (dims : List DimensionInfo) (n : ℕ) (lent : Distribution) (at : DimIdx) (y : Candidate) (g : Gen) (len : n ≤ length dims) where
-  pub set-decoded : (ci : Ci) (r : ParamValue) → at .0 < n → ci ≡ continuousPlace (take n dims) at → r ≡ decodedBy (getD dims (at .0) noDim .distribution) at ci y
-      → record { setting = r; after = g } ≡ settingRec (settingFor (take n dims) lent (at .0) y g)
+  pub set-decoded : (r : ParamValue) → at .0 < n → r ≡ decodeOf (take n dims) (at .0) y → record { setting = r; after = g } ≡ settingRec (settingFor (take n dims) lent (at .0) y g)
   unfolding settingFor
-  set-decoded ci r h e f =
+  set-decoded r h p =
       let t : ltb (at .0) (length (take n dims)) ≡ true = lt-ltb (at .0) (length (take n dims)) (rw (length-take-le n dims len) h) in
-      let p : r ≡ decodeOf (take n dims) (at .0) y =
-      f ∙ ap (λ (x : DimensionInfo). decodedBy (x .distribution) at ci y) (sym (getD-take n dims (at .0) noDim h))
-      ∙ ap (λ (c : Ci). decodedBy (getD (take n dims) (at .0) noDim .distribution) at c y) e
-      ∙ decode-is (take n dims) (at .0) y in
       rw (t, p)
 
   pub set-random : (m : RandomSetting) → n ≤ at .0 → m ≡ randomRec (randomSetting lent g)

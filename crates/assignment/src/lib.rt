@@ -8,6 +8,7 @@ ghost use Prim.Native.Nat.{_+_, _≤_, _<_, _^_, min};
 ghost use lib.ListN.{take};
 ghost use Rattle.distribution.specs.Validate.{verdictOf};
 ghost use Rattle.candidates.specs.Space.{FewChoices};
+ghost use Rattle.kernel.specs.De.{decodeOf};
 ghost use Rattle.assignment.specs.Raw.{decodedBy, settingFor, settingRec, candidateFor, Ready, rawActive};
 use candidates::Candidate;
 use distribution::Ci;
@@ -54,7 +55,19 @@ fn decode(d: Distribution, at: DimIdx, ci: Ci, c: Candidate) -> ParamValue
     ParamValue::Categorical(choice as u64)
 }
 
-// The candidate's setting for dimension `at`, by the stored distribution; past the last, a random one of the lent.
+// The candidate's setting for dimension `at`, by the stored distribution.
+pub fn decode_at(dims: [DimensionInfo; 16], n_dims: usize, at: DimIdx, c: Candidate) -> ParamValue
+    requires { ⌜ (at .0 < «n_dims») × («n_dims» ≤ 16) ⌝ }
+    ensures { λ r. ⌜ r ≡ decodeOf (take «n_dims» dims) (at .0) c ⌝ }
+{
+    let ci = candidates::continuous_place(dims, n_dims, at);
+    let k = at.0;
+    let dim = dims[k];
+    let stored = dim.distribution;
+    decode(stored, at, ci, c)
+}
+
+// The candidate's setting for dimension `at`; past the last, a random one of the lent distribution.
 pub fn setting_for(
     dims: [DimensionInfo; 16],
     n_dims: usize,
@@ -68,10 +81,7 @@ pub fn setting_for(
 {
     let k = at.0;
     if k < n_dims {
-        let ci = candidates::continuous_place(dims, n_dims, at);
-        let dim = dims[k];
-        let stored = dim.distribution;
-        let setting = decode(stored, at, ci, c);
+        let setting = decode_at(dims, n_dims, at, c);
         return DrawnSetting {
             setting,
             after: from,
