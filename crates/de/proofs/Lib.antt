@@ -8,3 +8,6 @@ pub mod Sampling
 pub mod PlainCall
 pub mod Scanned
 pub mod Looking
+pub mod Holding
+pub mod Numbers
+pub mod Refused

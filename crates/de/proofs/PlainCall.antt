@@ -26,6 +26,7 @@ use Rattle.de.specs.declared.Sampled.{Sampled}
 use Rattle.de.specs.declared.plain.PlainPlace.{PlainPlace}
 use Rattle.de.specs.Plainly.{noPlace, plainAt, plainOf, PlainAt, givenBy}
 use Rattle.de.specs.Refusing.{countRefusal, firstRefusal}
+use Rattle.de.specs.Answer.{numbered}
 use Rattle.de.specs.Gathered.{sampledOn, rowIn}
 use Rattle.de.specs.Whole.{Acceptable, Numbers}
 use Rattle.de.proofs.Accepting as Accepting
@@ -116,8 +117,8 @@ module _ (s : State) (mm : Measured s) (e : soundState s ≡ true) (d : Distribu
   given-one : rawActive s d n (startOf s) .ok ≡ true
   given-one = sym (ap (λ (a : Accepted). a .ok) (known-given s d n (startOf s) (placeOf s n) refl has-candidate (settingRec (settingFor (dimsOf s) d (nextAt s (placeOf s n)) (getD (s .candidates) (placeOf s n) noCandidate) (startOf s))) _ _ refl refl refl))
 
-  pub returned : (r : Sampled) → r ≡ givenBy (rawActive s d n (startOf s)) → r ≡ sampledOn s d n (g .nan) (rowIn s (g .found) (g .values))
+  pub returned : (r : Sampled) → r ≡ givenBy (rawActive s d n (startOf s)) → numbered r ≡ sampledOn s d n (g .nan) (rowIn s (g .found) (g .values))
   returned r h =
-      h
+      ap numbered h
       ∙ Sampling.given s mm e d n g closes refl (placeOf s n) refl (discovers (firstIn (s .first)) n) refl V′.Valid counts-are (firstRefusal d (g .nan) V′.Valid) refl none-refused (rawActive s d n (startOf s))
       (Accepting.plain-returns s mm d n closes (g .values) acceptable disc open-still (rawActive s d n (startOf s)) refl) given-one

@@ -14,13 +14,14 @@ use Rattle.distribution.specs.Refusals.{refusalNumber}
 use Rattle.distribution.specs.Validate.{judged, verdictOf, refusalOf, refusedIf}
 use Rattle.distribution.specs.declared.Distribution.{Distribution}
 use Rattle.distribution.specs.declared.Refusal.{Refusal}
-use Rattle.distribution.specs.declared.Refusal.the-variants.{StateNotSound, MutationFactor, CrossoverRate, PopulationSize, Bounds, LogScale, Step, Choices, HistoryNan, Dimensions, ExtraTrials, EntryNan}
+use Rattle.distribution.specs.declared.Refusal.the-variants.{HistoryNan, Dimensions, ExtraTrials, EntryNan}
 use Rattle.distribution.specs.declared.Verdict.{Verdict}
 use Rattle.distribution.specs.declared.Verdict.the-variants as V′
 use Rattle.evolution.specs.declared.Setup.{Setup}
 use Rattle.history.specs.declared.Gathered.{Gathered}
 use Rattle.ledger.specs.Words.{orElse, refuseIf, has, isNone}
 use Rattle.ledger.specs.State as Plain
+use Rattle.ledger.specs.State.{refuse}
 use Rattle.ledger.specs.Assignment.{placeIn, Accepted as Taken}
 use Rattle.ledger.specs.Sample.{discovers, outcome}
 use Rattle.ledger.proofs.Lists.{none≢some, some-inj}
@@ -37,27 +38,13 @@ use Rattle.assignment.specs.declared.Accepted.{Accepted}
 use Rattle.assignment.proofs.Refine.{place-laid}
 use Rattle.closing.specs.Raw.{closesNow}
 use Rattle.de.specs.declared.Answer.the-variants.{Setting, Refused}
-use Rattle.de.specs.Answer.{refusalNumbered}
+use Rattle.de.specs.Answer.{numbered}
 use Rattle.de.specs.Refusing.{countRefusal, orVerdict, firstRefusal}
 use Rattle.de.specs.Sample.{laidResult, unsound}
 use Rattle.de.specs.Gathered.{refusalOn, acceptOn, refusal, stepOn, sampledOn, rowIf, rowIn}
 use Rattle.de.specs.Whole.{taken, laidTaken, Acceptable, Numbers}
 
 -- ---- numbers of refusals
-
-pub named : (r : Refusal) → refusalNumbered (refusalNumber r) ≡ r
-named StateNotSound = refl
-named MutationFactor = refl
-named CrossoverRate = refl
-named PopulationSize = refl
-named Bounds = refl
-named LogScale = refl
-named Step = refl
-named Choices = refl
-named HistoryNan = refl
-named Dimensions = refl
-named ExtraTrials = refl
-named EntryNan = refl
 
 if-number : (b : Bool) (r : Refusal) → refusalOf (refusedIf b r V′.Valid) ≡ refuseIf b (refusalNumber r)
 if-number true r = refl
@@ -151,9 +138,9 @@ module _ (s : State) (mm : Measured s) (e : soundState s ≡ true) (d : Distribu
     sampled-is o q = rw (e, q)
 
     -- refused
-    pub refused : (r : Refusal) → verdict ≡ V′.Refused r → record { answer = Refused r; state = s; draws = 0 } ≡ sampledOn s d n (g .nan) row
+    pub refused : (r : Refusal) → verdict ≡ V′.Refused r → numbered (record { answer = Refused r; state = s; draws = 0 }) ≡ sampledOn s d n (g .nan) row
     refused r q =
-        sym (sampled-is (some (refusalNumber r)) (sym refusal-is ∙ ap refusalOf q) ∙ (λ i. record { answer = Refused (named r i); state = sym is i; draws = 0 }))
+        sym (sampled-is (some (refusalNumber r)) (sym refusal-is ∙ ap refusalOf q) ∙ ap (refuse de (refusalNumber r)) (sym is))
 
     -- accepted
     module _ (q : verdict ≡ V′.Valid) where
@@ -187,19 +174,19 @@ module _ (s : State) (mm : Measured s) (e : soundState s ≡ true) (d : Distribu
       accepted-on = ap (λ (b : Bool). acceptOn S (m .size) m n d (rowIf b (take (s .n) (g .values)))) ec
 
       pub given : (a : Accepted) → taken a ≡ laidTaken S (acceptOn S (m .size) m n d (rowIf cl (take (s .n) (g .values)))) → a .ok ≡ true
-          → record { answer = Setting (a .setting); state = a .state; draws = a .draws } ≡ sampledOn s d n (g .nan) row
+          → numbered (record { answer = Setting (a .setting); state = a .state; draws = a .draws }) ≡ sampledOn s d n (g .nan) row
       given a t y = sym (sampled-is none unrefused ∙ go (acceptOn S (m .size) m n d row) (t ∙ ap (laidTaken S) accepted-on))
         where
-          go : (o : Option (Taken de)) → taken a ≡ laidTaken S o → laidResult S (outcome de m none o) ≡ record { answer = Setting (a .setting); state = a .state; draws = a .draws }
+          go : (o : Option (Taken de)) → taken a ≡ laidTaken S o → laidResult S (outcome de m none o) ≡ numbered (record { answer = Setting (a .setting); state = a .state; draws = a .draws })
           go none x = absurd (none≢some (sym (sym (ap (λ (b : Bool). cond b (some a) none) y) ∙ x)))
-          go (some k) x = ap (λ (z : Accepted). record { answer = Setting (z .setting); state = z .state; draws = z .draws }) (sym (some-inj (sym (ap (λ (b : Bool). cond b (some a) none) y) ∙ x)))
+          go (some k) x = ap (λ (z : Accepted). numbered (record { answer = Setting (z .setting); state = z .state; draws = z .draws })) (sym (some-inj (sym (ap (λ (b : Bool). cond b (some a) none) y) ∙ x)))
 
       pub missing : (a : Accepted) → taken a ≡ laidTaken S (acceptOn S (m .size) m n d (rowIf cl (take (s .n) (g .values)))) → a .ok ≡ false
-          → record { answer = Refused EntryNan; state = s; draws = 0 } ≡ sampledOn s d n (g .nan) row
+          → numbered (record { answer = Refused EntryNan; state = s; draws = 0 }) ≡ sampledOn s d n (g .nan) row
       missing a t y = sym (sampled-is none unrefused ∙ go (acceptOn S (m .size) m n d row) (t ∙ ap (laidTaken S) accepted-on))
         where
-          go : (o : Option (Taken de)) → taken a ≡ laidTaken S o → laidResult S (outcome de m none o) ≡ record { answer = Refused EntryNan; state = s; draws = 0 }
-          go none x = λ i. record { answer = Refused EntryNan; state = sym is i; draws = 0 }
+          go : (o : Option (Taken de)) → taken a ≡ laidTaken S o → laidResult S (outcome de m none o) ≡ numbered (record { answer = Refused EntryNan; state = s; draws = 0 })
+          go none x = ap (refuse de 11) (sym is)
           go (some k) x = absurd (none≢some (sym (ap (λ (b : Bool). cond b (some a) none) y) ∙ x))
 
 -- refusal 0

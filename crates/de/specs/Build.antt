@@ -1,16 +1,19 @@
 -- The set-up: "Set-up: F, CR, strategy, perhaps a size, and a seed, which is the generator's first word. Nothing is seeded at random."
 use Prim.Native.Nat.{ℕ}
 use mathlib.Core.Bool.{false}
+use mathlib.Core.Option.{Option, none, some}
 use lib.Ieee.{Float, binary64, round}
+use Rattle.distribution.specs.Refusals.{refusalNumber}
 use Rattle.distribution.specs.declared.Verdict.{Verdict}
 use Rattle.distribution.specs.declared.Verdict.the-variants as Judged
 use Rattle.evolution.specs.declared.DEStrategy.{DEStrategy}
 use Rattle.evolution.specs.declared.DEStrategy.the-variants.{Rand1}
 use Rattle.evolution.specs.declared.PopulationSize.the-variants.{Unset, Of}
 use Rattle.evolution.specs.declared.Setup.{Setup}
+use Rattle.ledger.specs.Words.{orElse, refuseIf}
 use Rattle.ledger.specs.State.{fresh}
 use Rattle.kernel.specs.De.{de}
-use Rattle.state.specs.Setup.{setupVerdict}
+use Rattle.state.specs.Setup.{factorFails, rateFails, sizeFails, setupVerdict}
 use Rattle.state.specs.View.{laid}
 use Rattle.state.specs.declared.State.{State}
 use Rattle.de.specs.declared.build.Built.{Built}
@@ -60,6 +63,15 @@ builtBy (Judged.Refused r) S = Refused r
 
 unfoldable pub builtOf : DESamplerBuilder → Built
 builtOf b = builtBy (setupVerdict (b .setup)) (b .setup)
+
+-- the number of the refusal, if the answer is one
+abbrev pub builtRefusal : Built → Option ℕ
+builtRefusal (Accepted S) = none
+builtRefusal (Refused r) = some (refusalNumber r)
+
+-- the table's 1, 2 and 3, the first that applies
+unfoldable pub setupRefusal : Setup → Option ℕ
+setupRefusal S = orElse (refuseIf (factorFails (S .«mutation_factor»)) 1) (orElse (refuseIf (rateFails (S .«crossover_rate»)) 2) (refuseIf (sizeFails (S .«population_size»)) 3))
 
 -- ---- "Fresh is what an accepted set-up returns"
 

@@ -23,7 +23,6 @@ use Rattle.state.specs.Sound.{soundState}
 use Rattle.state.specs.View.{view}
 use Rattle.state.specs.declared.State.{State}
 use Rattle.de.specs.Sample.{callOf, laidResult, unsound}
-use Rattle.de.specs.declared.Sampled.{Sampled}
 
 -- ---- the ledger's `sampling`, `discovery`, `stateRefusal`, `accept` and `step`, with the counted results in place of the history
 
@@ -54,7 +53,7 @@ refusal m n d bad row = orElse (orElse (judged d) (refuseIf bad 8)) (refusalOn (
 unfoldable pub stepOn : Setup → Plain.State de → ℕ → Distribution → Bool → Option (List Float) → Plain.Result de (Plain.State de)
 stepOn S m n d bad row = outcome de m (refusal m n d bad row) (acceptOn S (m .size) m n d row)
 
-unfoldable pub sampledOn : State → Distribution → ℕ → Bool → Option (List Float) → Sampled
+unfoldable pub sampledOn : State → Distribution → ℕ → Bool → Option (List Float) → Plain.Result de State
 sampledOn s d n bad row = cond (soundState s) (laidResult (s .setup) (stepOn (s .setup) (view s) n d bad row)) (unsound s)
 
 -- ---- the counted results, as the history has them and as a scan gathers them

@@ -2,6 +2,8 @@ pub mod Build
 pub mod Answer
 pub mod Sample
 pub mod Look
+pub mod Held
+pub mod Demand1
 pub mod Gathered
 pub mod Ask
 pub mod Whole

@@ -1,15 +1,18 @@
 -- "a look call giving best slot and values, or nothing before the first closing; closed generations; idle generations"
 use Prim.Native.Nat.{ℕ}
-use mathlib.Core.Bool.{cond}
+use mathlib.Core.Bool.{not, cond}
 use mathlib.Core.List.{List, []}
+use mathlib.Core.Option.{Option, none, some}
 use lib.Dec.{eqb}
 use lib.Ieee.{Float}
 use lib.ListN.{length, getD}
 use Rattle.rng_util.specs.Many.{padTo}
+use Rattle.distribution.specs.Refusals.{refusalNumber}
 use Rattle.distribution.specs.declared.Refusal.the-variants.{StateNotSound}
 use Rattle.common.specs.Bounds.{zeroF}
 use Rattle.evolution.specs.Mutant.{noMember}
 use Rattle.evolution.specs.declared.Member.{Member}
+use Rattle.ledger.specs.Words.{refuseIf}
 use Rattle.ledger.specs.State as Plain
 use Rattle.kernel.specs.De.{de}
 use Rattle.state.specs.Sound.{soundState}
@@ -34,3 +37,13 @@ seen o = record { look = Best (o .best); n = length (o .parents); values = padTo
 -- refusal 0; "nothing before the first closing", when both counters are 0
 unfoldable pub lookOf : State → Looked
 lookOf s = cond (soundState s) (cond (eqb (view s .slots .closed) 0) (bare Nothing) (seen (view s .slots))) (bare (Refused StateNotSound))
+
+-- the number of the refusal, if the answer is one
+abbrev pub lookRefusal : LookAnswer → Option ℕ
+lookRefusal (Refused r) = some (refusalNumber r)
+lookRefusal Nothing = none
+lookRefusal (Best b) = none
+
+-- the table's 0, and no other
+abbrev pub unsoundRefusal : State → Option ℕ
+unsoundRefusal s = refuseIf (not (soundState s)) 0

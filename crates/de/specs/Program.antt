@@ -6,17 +6,12 @@ use Rattle.ledger.specs.Sampler.{Sampler}
 use Rattle.kernel.specs.De.{de}
 use Rattle.state.specs.View.{view}
 use Rattle.state.specs.declared.State.{State}
-use Rattle.de.specs.Answer.{plainAnswer}
 use Rattle.de.specs.Build.{freshState}
 use Rattle.de.specs.Sample.{sampleOf}
-use Rattle.de.specs.declared.Sampled.{Sampled}
 
-abbrev pub plainResult : Sampled → Result de State
-plainResult r = record { answer = plainAnswer (r .answer); draws = r .draws; state = r .state }
-
--- the sample call, whose contract is `sampleOf`
+-- the sample call: what it returns, `numbered`, is `sampleOf`
 abbrev pub ran : State → Call de → Result de State
-ran s c = plainResult (sampleOf s (c .distribution .distribution) (c .number) (c .history))
+ran s c = sampleOf s (c .distribution .distribution) (c .number) (c .history)
 
 abbrev pub program : Setup → Sampler de
 program S = record { Kept = State; view = view; new = freshState S; call = ran }

@@ -3,30 +3,28 @@ use Prim.Native.Nat.{ℕ}
 use mathlib.Core.Bool.{cond}
 use mathlib.Core.List.{List}
 use Rattle.distribution.specs.declared.Distribution.{Distribution}
-use Rattle.distribution.specs.declared.Refusal.the-variants.{StateNotSound}
 use Rattle.evolution.specs.declared.Setup.{Setup}
 use Rattle.history.specs.declared.CompletedTrial.{CompletedTrial}
 use Rattle.ledger.specs.Call.{Call}
 use Rattle.ledger.specs.State as Plain
+use Rattle.ledger.specs.State.{Result, refuse}
 use Rattle.ledger.specs.Sample.{step}
 use Rattle.kernel.specs.De.{de}
 use Rattle.state.specs.Sound.{soundState}
 use Rattle.state.specs.View.{view, laid}
 use Rattle.state.specs.declared.State.{State}
-use Rattle.de.specs.Answer.{answerOf}
-use Rattle.de.specs.declared.Answer.the-variants.{Refused}
-use Rattle.de.specs.declared.Sampled.{Sampled}
 
 -- "each call's trial number, distribution and history"
 abbrev pub callOf : ℕ → Distribution → List CompletedTrial → Call de
 callOf n d h = record { number = n; distribution = record { distribution = d }; history = h }
 
-abbrev pub laidResult : Setup → Plain.Result de (Plain.State de) → Sampled
-laidResult S r = record { answer = answerOf (r .answer); state = laid S (r .state); draws = r .draws }
+-- the same answer and draws, the state in the code's arrays
+abbrev pub laidResult : Setup → Result de (Plain.State de) → Result de State
+laidResult S r = record { answer = r .answer; draws = r .draws; state = laid S (r .state) }
 
--- "has no setting, counts zero draws and hands back the state that came in, generator word included"
-abbrev pub unsound : State → Sampled
-unsound s = record { answer = Refused StateNotSound; state = s; draws = 0 }
+-- 0: "sample or look: the state isn't sound"; a refusal "has no setting, counts zero draws and hands back the state that came in, generator word included"
+abbrev pub unsound : State → Result de State
+unsound s = refuse de 0 s
 
-unfoldable pub sampleOf : State → Distribution → ℕ → List CompletedTrial → Sampled
+unfoldable pub sampleOf : State → Distribution → ℕ → List CompletedTrial → Result de State
 sampleOf s d n h = cond (soundState s) (laidResult (s .setup) (step de (s .setup) (view s) (callOf n d h))) (unsound s)

@@ -1,6 +1,6 @@
 // The set-up: the Rust's builder, and the state that an accepted set-up returns.
 ghost use mathlib.Core.Path.{_≡_};
-ghost use Rattle.de.specs.Build.{defaults, withSize, withFactor, withRate, withStrategy, withSeed, builtOf, freshState};
+ghost use Rattle.de.specs.Build.{defaults, withSize, withFactor, withRate, withStrategy, withSeed, builtOf, builtRefusal, setupRefusal, freshState};
 use candidates::blank_candidate;
 use distribution::CategoricalDistribution;
 use distribution::DimensionInfo;
@@ -96,7 +96,7 @@ impl DESamplerBuilder {
 
     // Refusals 1, 2 and 3, the first that applies.
     pub fn build(self) -> Built
-        ensures { λ r. ⌜ r ≡ builtOf self ⌝ }
+        ensures { λ r. ⌜ (r ≡ builtOf self) × (builtRefusal r ≡ setupRefusal (self .setup)) ⌝ }
     {
         let setup = self.setup;
         let verdict = state::setup::validate_setup(setup);

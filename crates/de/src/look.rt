@@ -3,7 +3,11 @@ ghost use mathlib.Core.Path.{_≡_};
 ghost use Prim.Native.Nat.{_≤_};
 ghost use Rattle.rng_util.specs.Many.{padTo, listed};
 ghost use Rattle.common.specs.Bounds.{zeroF};
-ghost use Rattle.de.specs.Look.{bare, valueAt, lookOf};
+ghost use Rattle.de.specs.Look.{bare, valueAt, lookOf, lookRefusal, unsoundRefusal};
+ghost use Rattle.de.specs.Held.{heldOf, heldRefusal};
+use assignment::decode_at;
+use distribution::DimIdx;
+use distribution::ParamValue;
 use distribution::Refusal;
 use evolution::Member;
 use state::State;
@@ -55,7 +59,7 @@ fn slot_values(parents: [Member; 160], n: usize) -> [f64; 160]
 
 // Best slot and values, or nothing before the first closing; closed and idle generations.
 pub fn look(state: State) -> Looked
-    ensures { λ r. ⌜ r ≡ lookOf state ⌝ }
+    ensures { λ r. ⌜ (r ≡ lookOf state) × (lookRefusal (r .look) ≡ unsoundRefusal state) ⌝ }
 {
     if is_sound(state) {
         if state.closed == 0 {
@@ -73,4 +77,35 @@ pub fn look(state: State) -> Looked
         };
     }
     bare_look(LookAnswer::Refused(Refusal::StateNotSound))
+}
+
+// What a slot holds in a dimension, or nothing where there is no such slot or dimension.
+pub enum Held {
+    Refused(Refusal),
+    Nothing,
+    Setting(ParamValue),
+}
+
+// The setting that a slot holds in a dimension, as a trial with its candidate is handed it.
+pub fn slot_setting(state: State, slot: usize, dimension: usize) -> Held
+    ensures { λ r. ⌜ (r ≡ heldOf state slot dimension) × (heldRefusal r ≡ unsoundRefusal state) ⌝ }
+{
+    if is_sound(state) {
+        if state.closed == 0 {
+            return Held::Nothing;
+        }
+        if state.n <= slot {
+            return Held::Nothing;
+        }
+        if state.n_dims <= dimension {
+            return Held::Nothing;
+        }
+        let dims = state.dims;
+        let parents = state.parents;
+        let m = parents[slot];
+        let c = m.candidate;
+        let setting = decode_at(dims, state.n_dims, DimIdx(dimension), c);
+        return Held::Setting(setting);
+    }
+    Held::Refused(Refusal::StateNotSound)
 }

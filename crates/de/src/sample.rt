@@ -1,6 +1,7 @@
 // The sample call (sampler/de.rs, `sample`): refusals first, then discovery, closing and assignment.
 ghost use mathlib.Core.Path.{_≡_};
 ghost use Prim.Native.Nat.{_≤_};
+ghost use Rattle.de.specs.Answer.{numbered};
 ghost use Rattle.de.specs.Gathered.{acceptOn, sampledOn, rowIf, rowIn};
 ghost use Rattle.de.specs.Refusing.{countRefusal, firstRefusal};
 ghost use Rattle.de.specs.Sample.{sampleOf};
@@ -133,7 +134,7 @@ fn accept(state: State, d: Distribution, trial: u64, closes: bool, results: [f64
 // A call of any kind, given what its history has.
 fn sample_any(state: State, d: Distribution, trial: u64, g: Gathered) -> Sampled
     requires { ⌜ Numbers state g ⌝ }
-    ensures { λ r. ⌜ r ≡ sampledOn state d trial (g .nan) (rowIn state (g .found) (g .values)) ⌝ }
+    ensures { λ r. ⌜ numbered r ≡ sampledOn state d trial (g .nan) (rowIn state (g .found) (g .values)) ⌝ }
 {
     if is_sound(state) {
         let n = state.n;
@@ -192,7 +193,7 @@ fn sample_any(state: State, d: Distribution, trial: u64, g: Gathered) -> Sampled
 // The call, given what its history has. Most calls are plain: a state that is handed on is copied, and they hand on parts.
 fn sample_gathered(state: State, d: Distribution, trial: u64, g: Gathered) -> Sampled
     requires { ⌜ Numbers state g ⌝ }
-    ensures { λ r. ⌜ r ≡ sampledOn state d trial (g .nan) (rowIn state (g .found) (g .values)) ⌝ }
+    ensures { λ r. ⌜ numbered r ≡ sampledOn state d trial (g .nan) (rowIn state (g .found) (g .values)) ⌝ }
 {
     let trials = state.trials;
     let at = plain_place(
@@ -224,7 +225,7 @@ pub fn sample_slices<'a>(
     numbers: &'a [u64],
     values: &'a [f64],
 ) -> Sampled
-    ensures { λ r. ⌜ r ≡ sampleOf state distribution trial (trialsOf (now (numbers .entry)) (now (values .entry))) ⌝ }
+    ensures { λ r. ⌜ numbered r ≡ sampleOf state distribution trial (trialsOf (now (numbers .entry)) (now (values .entry))) ⌝ }
 {
     let n_trials = state.n_trials;
     let trials = state.trials;
@@ -265,7 +266,7 @@ pub fn sample(
     trial: u64,
     history: &[CompletedTrial],
 ) -> Sampled
-    ensures { λ r. ⌜ r ≡ sampleOf state distribution trial (now (history .entry)) ⌝ }
+    ensures { λ r. ⌜ numbered r ≡ sampleOf state distribution trial (now (history .entry)) ⌝ }
 {
     let q = ask_state(state);
     let g = gather(history, q.lo, q.hi, q.wanted);

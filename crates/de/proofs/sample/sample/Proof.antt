@@ -57,6 +57,7 @@ use Rattle.state.proofs.State as S
 use Rattle.state.proofs.State.Laws as S′
 use Rattle.state.proofs.Measured.{measured}
 use Rattle.de.specs.Ask.{wantedCount, firstNumbers, askedOf}
+use Rattle.de.specs.Answer.{numbered}
 use Rattle.de.specs.Gathered.{sampledOn, rowIn}
 use Rattle.de.specs.Sample.{sampleOf}
 use Rattle.de.specs.Whole.{Numbers}
@@ -117,7 +118,7 @@ module _ {M : Type 1} (𝓤 : URA M) (H : Heap 𝓤) (A : Atoms 𝓤) (W : Given
     abbrev Alive : SProp 𝓤
     Alive = alive 𝓤 H A f.signature (κ, tt) (q, tt)
 
-    exits : (r : Sampled) (v : Val) → Is O.the-row r (v ∷ []) → r ≡ sampleOf s d t ys → ent 𝓤 (⋆ 𝓤 H A (raw Alive ∷ ‵ Slice ∷ [])) (Post v)
+    exits : (r : Sampled) (v : Val) → Is O.the-row r (v ∷ []) → numbered r ≡ sampleOf s d t ys → ent 𝓤 (⋆ 𝓤 H A (raw Alive ∷ ‵ Slice ∷ [])) (Post v)
     exits r v is e =
         qed W (raw Alive ∷ ‵ Slice ∷ []) ∵
         suffices ! _ (ends-at 𝓤 H A f.ended stayed (f.clauses 𝓤 H A mem run) W (((κ, tt), (q, tt), tt, (s, (d, (t, (h, tt)))), at), tt) v r (tt, (tt, (tt, (tt, tt)))) (tt, (tt, (tt, (tt, tt))))) $ says ! e $
@@ -154,7 +155,7 @@ module _ {M : Type 1} (𝓤 : URA M) (H : Heap 𝓤) (A : Atoms 𝓤) (W : Given
     module _ (C : Calls 𝓤 H) (Λ : Loops 𝓤 H) (fm : FmC 𝓤 H (W .laws) C) (known-ask : Triple 𝓤 (C #de·ask·ask-state) (Ask 𝓤 H A mem run)) (known-gather : Triple 𝓤 (C #history·gather) (Gather 𝓤 H A mem run)) (known-answer : Triple 𝓤 (C #de·sample·sample-gathered) (Answer 𝓤 H A mem run)) where
       -- the body, over any types of the locals: nothing of a walk reads how a State is laid out
       module _ (τo τs τd τh τg : Ty) (typed-out : (r : Sampled) (v : Val) → Is O.the-row r (v ∷ []) → Holds (hasTy τo v) × WT v) (typed-got : (g : Gathered) (v : Val) → Is G.the-row g (v ∷ []) → Holds (hasTy τg v) × WT v)
-          (Out : Val → SProp 𝓤) (leaves : (r : Sampled) (v : Val) → Is O.the-row r (v ∷ []) → r ≡ sampleOf s d t ys → ent 𝓤 (⋆ 𝓤 H A (raw Alive ∷ ‵ Slice ∷ [])) (Out v)) (l₀ l₁ l₂ l₃ l₄ l₅ l₆ : ℕ) where
+          (Out : Val → SProp 𝓤) (leaves : (r : Sampled) (v : Val) → Is O.the-row r (v ∷ []) → numbered r ≡ sampleOf s d t ys → ent 𝓤 (⋆ 𝓤 H A (raw Alive ∷ ‵ Slice ∷ [])) (Out v)) (l₀ l₁ l₂ l₃ l₄ l₅ l₆ : ℕ) where
         abbrev En : Env 𝓤 H
         En = (τo, l₀) ∷ (τs, l₁) ∷ (τd, l₂) ∷ (tyInt w64, l₃) ∷ (τh, l₄) ∷ (Q′.mir, l₅) ∷ (τg, l₆) ∷ []
 
@@ -179,7 +180,7 @@ module _ {M : Type 1} (𝓤 : URA M) (H : Heap 𝓤) (A : Atoms 𝓤) (W : Given
             use0 W (raw (Answer 𝓤 H A mem run .pre (to-answer g v₂))) (answer-pre g v₂ is₂ (By.numbers s (measured s _ iss) ys a e₁ g e₂)) $
             -- [what `sample_gathered` asks; the token; Slice; true; _6 at 4; _5 at 6; _4 at 8; _3 at 10; _2 at 12; _1 at 14; _0 at 16]
             calls-at ! fm (Answer 𝓤 H A mem run) known-answer (to-answer g v₂) (and-then ! (load ! (from ! (stop !)) (look ! 14 refl)) (and-then ! (load ! (from ! (stop !)) (look ! 12 refl)) (and-then ! (load ! (from ! (stop !)) (look ! 10 refl)) (and-then ! (load ! (from ! (stop !)) (look ! 4 refl)) (no-more !))))) (λ v₃.
-            returned ! tt answer.ended (answer.clauses 𝓤 H A mem run) (to-answer g v₂) v₃ (λ r. r ≡ sampledOn s d t (g .nan) (rowIn s (g .found) (g .values))) (λ r ws. id⊢ 𝓤 _) (λ r is₃ e₃. drop ! $
+            returned ! tt answer.ended (answer.clauses 𝓤 H A mem run) (to-answer g v₂) v₃ (λ r. numbered r ≡ sampledOn s d t (g .nan) (rowIn s (g .found) (g .values))) (λ r ws. id⊢ 𝓤 _) (λ r is₃ e₃. drop ! $
             land ! (from ! (stop !)) (init ! 15 refl (typed-out r _ is₃)) $
             returns ! (look ! 15 refl) $ forget ! 3 refl $ forget ! 5 refl $ forget ! 7 refl $ forget ! 9 refl $ forget ! 11 refl $ forget ! 13 refl $ forget ! 15 refl $
             move ! (15 ∷ 16 ∷ []) $ free1 ! $ move ! (13 ∷ 14 ∷ []) $ free1 ! $ move ! (11 ∷ 12 ∷ []) $ free1 ! $ move ! (9 ∷ 10 ∷ []) $ free1 ! $ move ! (7 ∷ 8 ∷ []) $ free1 ! $ move ! (5 ∷ 6 ∷ []) $ free1 ! $ move ! (3 ∷ 4 ∷ []) $ free1 ! $ free0 ! $

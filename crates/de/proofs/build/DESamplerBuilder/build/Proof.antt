@@ -3,6 +3,7 @@ use mathlib.Core.Path.{sym, ap, _∙_}
 use borrow.Author.Needs.{needs}
 use Rattle.distribution.specs.declared.Verdict.{Verdict}
 use Rattle.de.specs.Build.{builtBy, builtOf}
+use Rattle.de.proofs.Numbers.{built-meets}
 use Rattle.de.proofs.build.DESamplerBuilder.build.Statement.{statement}
 use Rattle.de.proofs.build.DESamplerBuilder.build.Tie as tie
 
@@ -18,12 +19,14 @@ enum-told c = search needs
 returns : tie.Need-returns
 unfolding builtOf
 returns c =
-    sym (ap (λ (v : Verdict). builtBy v (c .before .before .before .before .before .args .self .setup)) (sym (c .before .before .before .validate-setup .ensures) ∙ c .before .verdict .given .1))
+    let b = c .before .before .before .before .before .args .self in
+    built-meets b _ (sym (ap (λ (v : Verdict). builtBy v (b .setup)) (sym (c .before .before .before .validate-setup .ensures) ∙ c .before .verdict .given .1)))
 
 returns-2 : tie.Need-returns-2
 unfolding builtOf
 returns-2 c =
-    sym (ap (λ (v : Verdict). builtBy v (c .before .before .before .before .args .self .setup)) (sym (c .before .before .validate-setup .ensures) ∙ c .enum-told .given .1))
+    let b = c .before .before .before .before .args .self in
+    built-meets b _ (sym (ap (λ (v : Verdict). builtBy v (b .setup)) (sym (c .before .before .validate-setup .ensures) ∙ c .enum-told .given .1)))
 
 pub build-spec : {M : Type 1} → statement M
 build-spec =

@@ -1,0 +1,88 @@
+-- `slot_setting` meets its contract: the state is judged, then whether there is such a slot and dimension; Holding has each way out.
+use Prim.Native.Nat.{_<_}
+use mathlib.Core.Path.{_≡_, sym, _∙_}
+use mathlib.Core.Bool.{true}
+use native.Mathlib.Omega.{arith}
+use borrow.Author.Needs.{needs}
+use Rattle.state.specs.Sound.{soundState}
+use Rattle.state.proofs.Measured.{Measured, measured}
+use Rattle.de.proofs.Holding as By
+use Rattle.de.proofs.Numbers.{held-meets}
+use Rattle.de.proofs.look.slot_setting.Statement.{statement}
+use Rattle.de.proofs.look.slot_setting.Tie as tie
+
+-- ---- what is known where the state is sound
+
+sized : (c : tie.Start) → Measured (c .args .state)
+sized c = measured (c .args .state) _ (c .good .0)
+
+sound : (t : tie.Then1) → soundState (t .before .before .args .state) ≡ true
+sound t = sym (t .before .is-sound .ensures) ∙ t .if1 .taken
+
+-- ---- the needs
+
+is-sound-requires : tie.Need-is-sound-requires
+is-sound-requires c κs = search needs
+
+returns : tie.Need-returns
+returns c =
+    let t = c .before .before in
+    let b = t .before .before in
+    held-meets (b .args .state) (b .args .slot) (b .args .dimension) _ (By.before-closing (b .args .state) (sound t) (sized b) (b .args .slot) (b .args .dimension) (c .if2 .taken))
+
+returns-2 : tie.Need-returns-2
+returns-2 c =
+    let t = c .before .before .before .before in
+    let b = t .before .before in
+    held-meets (b .args .state) (b .args .slot) (b .args .dimension) _ (By.past-slots (b .args .state) (sound t) (sized b) (b .args .slot) (b .args .dimension) (c .if3 .taken))
+
+returns-3 : tie.Need-returns-3
+returns-3 c =
+    let t = c .before .before .before .before .before .before in
+    let b = t .before .before in
+    held-meets (b .args .state) (b .args .slot) (b .args .dimension) _ (By.past-dims (b .args .state) (sound t) (sized b) (b .args .slot) (b .args .dimension) (c .if4 .taken))
+
+below : (c : tie.After-parents) → c .before .before .before .before .before .before .before .before .before .before .args .slot < 160
+below c =
+    let t = c .before .before .before .before .before .before .before .before in
+    let b = t .before .before in
+    let h = By.few (b .args .state) (sound t) (sized b) (b .args .slot) (b .args .dimension) .slots in
+    omega (arith, h, c .before .before .before .before .if3 .left)
+
+mul-m : tie.Need-mul-m
+mul-m c = let h = below c in omega arith
+
+array-copy-out-m : tie.Need-array-copy-out-m
+array-copy-out-m c = below c
+
+decode-at-requires : tie.Need-decode-at-requires
+decode-at-requires c κs =
+    let t = c .before .before .before .before .before .before .before .before .before .before in
+    let b = t .before .before in
+    (c .before .before .before .before .if4 .left, By.few-dims (b .args .state) (sound t) (sized b) (b .args .slot) (b .args .dimension))
+
+returns-4 : tie.Need-returns-4
+returns-4 c =
+    let t = c .before .before .before .before .before .before .before .before .before .before .before in
+    let b = t .before .before in
+    held-meets (b .args .state) (b .args .slot) (b .args .dimension) _
+    (By.held (b .args .state) (sound t) (sized b) (b .args .slot) (b .args .dimension) (c .before .before .before .before .before .before .before .before .before .if2 .left) (c .before .before .before .before .before .before .before .if3 .left) (c .before .before .before .before .before .if4 .left) _ (c .decode-at .ensures))
+
+returns-5 : tie.Need-returns-5
+returns-5 c =
+    let b = c .before .before in
+    held-meets (b .args .state) (b .args .slot) (b .args .dimension) _ (By.not-sound (b .args .state) (b .args .slot) (b .args .dimension) (sym (c .before .is-sound .ensures) ∙ c .if1 .left))
+
+pub slot-setting-spec : {M : Type 1} → statement M
+slot-setting-spec =
+    tie.close
+    (tie.spec
+    is-sound-requires
+    returns
+    returns-2
+    returns-3
+    mul-m
+    array-copy-out-m
+    decode-at-requires
+    returns-4
+    returns-5)
