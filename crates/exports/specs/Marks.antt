@@ -1,6 +1,7 @@
--- One of each struct that crosses, numbered in the order of declaration.
-use Prim.Native.Nat.{ℕ, _+_}
-use mathlib.Core.List.{List, [], _∷_}
+-- One of each struct that crosses. Each struct numbers its own fields from 1 on in the order of declaration; an array of numbers takes two, in its first and its last place; a field that is
+-- a struct, and the first and the last of an array of structs, hold that struct's own marks. The rest is 0.
+use Prim.Native.Nat.{ℕ}
+use mathlib.Core.List.{List}
 use lib.Ieee.{Float, binary64, ofInt}
 use lib.IntN.{pos}
 use lib.ListN.{set, replicate}
@@ -30,59 +31,60 @@ real n = ofInt binary64 (pos n)
 abbrev pub ends : {A : Type 0} → ℕ → A → ℕ → A → A → List A
 ends N blank last a b = set (set (replicate N blank) 0 a) last b
 
--- ---- from k on
+-- ---- the small ones
 
-abbrev pub setupFrom : ℕ → DeSetup
-setupFrom k = record { «mutation_factor» = real k; «crossover_rate» = real (k + 1); strategy = k + 2; sized = k + 3; «population_size» = k + 4; seed = k + 5 }
+unfoldable pub setupMarks : DeSetup
+unfolding ofInt
+setupMarks = record { «mutation_factor» = real 1; «crossover_rate» = real 2; strategy = 3; sized = 4; «population_size» = 5; seed = 6 }
 
-abbrev pub distributionFrom : ℕ → DeDistribution
-distributionFrom k =
+unfoldable pub distributionMarks : DeDistribution
+unfolding ofInt
+distributionMarks =
     record {
-      kind = k;
-      low = real (k + 1);
-      high = real (k + 2);
-      «whole_low» = pos (k + 3);
-      «whole_high» = pos (k + 4);
-      «log_scale» = k + 5;
-      stepped = k + 6;
-      step = real (k + 7);
-      «whole_step» = pos (k + 8);
-      «n_choices» = k + 9;
+      kind = 1;
+      low = real 2;
+      high = real 3;
+      «whole_low» = pos 4;
+      «whole_high» = pos 5;
+      «log_scale» = 6;
+      stepped = 7;
+      step = real 8;
+      «whole_step» = pos 9;
+      «n_choices» = 10;
     }
 
-abbrev pub candidateFrom : ℕ → Candidate
-candidateFrom k = record { x = ends 16 zeroF 15 (real k) (real (k + 1)); choices = ends 16 0 15 (k + 2) (k + 3) }
+unfoldable pub candidateMarks : Candidate
+unfolding ofInt
+candidateMarks = record { x = ends 16 zeroF 15 (real 1) (real 2); choices = ends 16 0 15 3 4 }
 
-abbrev pub memberFrom : ℕ → Member
-memberFrom k = record { candidate = candidateFrom k; value = real (k + 4) }
+unfoldable pub memberMarks : Member
+unfolding ofInt
+memberMarks = record { candidate = candidateMarks; value = real 1 }
 
-abbrev pub trialFrom : ℕ → TrialProgress
-trialFrom k = record { number = k; «next_dim» = k + 1 }
+abbrev pub progressMarks : TrialProgress
+progressMarks = record { number = 1; «next_dim» = 2 }
 
-abbrev pub lookFrom : ℕ → DeLook
-lookFrom k = record { kind = k; refusal = k + 1; best = k + 2; n = k + 3; closed = k + 4; idle = k + 5; values = ends 160 zeroF 159 (real (k + 6)) (real (k + 7)) }
+unfoldable pub lookMarks : DeLook
+unfolding ofInt
+lookMarks = record { kind = 1; refusal = 2; best = 3; n = 4; closed = 5; idle = 6; values = ends 160 zeroF 159 (real 7) (real 8) }
 
-abbrev pub answerFrom : ℕ → DeAnswer
-answerFrom k = record { kind = k; refusal = k + 1; real = real (k + 2); whole = pos (k + 3); choice = k + 4; draws = k + 5 }
+unfoldable pub answerMarks : DeAnswer
+unfolding ofInt
+answerMarks = record { kind = 1; refusal = 2; real = real 3; whole = pos 4; choice = 5; draws = 6 }
 
-abbrev pub settingFrom : ℕ → DeSetting
-settingFrom k = record { kind = k; real = real (k + 1); whole = pos (k + 2); choice = k + 3 }
+unfoldable pub settingMarks : DeSetting
+unfolding ofInt
+settingMarks = record { kind = 1; real = real 2; whole = pos 3; choice = 4 }
 
-abbrev pub internalFrom : ℕ → DeInternal
-internalFrom k = record { kind = k; refusal = k + 1; value = real (k + 2) }
+unfoldable pub internalMarks : DeInternal
+unfolding ofInt
+internalMarks = record { kind = 1; refusal = 2; value = real 3 }
 
-abbrev pub completedFrom : ℕ → CompletedTrial
-completedFrom k = record { number = k; value = real (k + 1) }
+unfoldable pub completedMarks : CompletedTrial
+unfolding ofInt
+completedMarks = record { number = 1; value = real 2 }
 
 -- ---- the state
-
--- every choice is numbered
-abbrev pub firstCandidate : Candidate
-firstCandidate =
-    record {
-      x = ends 16 zeroF 15 (real 90) (real 91);
-      choices = 92 ∷ 93 ∷ 94 ∷ 95 ∷ 96 ∷ 97 ∷ 98 ∷ 99 ∷ 100 ∷ 101 ∷ 102 ∷ 103 ∷ 104 ∷ 105 ∷ 106 ∷ 107 ∷ [];
-    }
 
 abbrev pub noMarks : DeDistribution
 noMarks =
@@ -100,61 +102,61 @@ noMarks =
     }
 
 unfoldable pub markedDims : List DeDistribution
-markedDims = ends 16 noMarks 15 (distributionFrom 70) (distributionFrom 80)
+markedDims = ends 16 noMarks 15 distributionMarks distributionMarks
 
 unfoldable pub markedCandidates : List Candidate
-markedCandidates = ends 224 blankCandidate 223 firstCandidate (candidateFrom 108)
+markedCandidates = ends 224 blankCandidate 223 candidateMarks candidateMarks
 
 unfoldable pub markedParents : List Member
-markedParents = ends 160 blankMember 159 (memberFrom 112) (memberFrom 117)
+markedParents = ends 160 blankMember 159 memberMarks memberMarks
 
 unfoldable pub markedTrials : List TrialProgress
-markedTrials = ends 224 blankTrial 223 (trialFrom 123) (trialFrom 125)
+markedTrials = ends 224 blankTrial 223 progressMarks progressMarks
 
 unfoldable pub markedState : DeState
 markedState =
     record {
-      setup = setupFrom 59;
-      named = 65;
-      first = 66;
-      discovered = 67;
-      n = 68;
-      «n_dims» = 69;
+      setup = setupMarks;
+      named = 1;
+      first = 2;
+      discovered = 3;
+      n = 4;
+      «n_dims» = 5;
       dims = markedDims;
       candidates = markedCandidates;
       parents = markedParents;
-      «n_trials» = 122;
+      «n_trials» = 6;
       trials = markedTrials;
-      best = 127;
-      word = 128;
-      closed = 129;
-      idle = 130;
+      best = 7;
+      word = 8;
+      closed = 9;
+      idle = 10;
     }
 
 -- ---- all
 
 abbrev pub markedCall : DeCall
-markedCall = record { trial = 19; distribution = distributionFrom 20 }
+markedCall = record { trial = 1; distribution = distributionMarks }
 
 unfoldable pub marks : DeMarks
 marks =
     record {
-      setup = setupFrom 1;
-      «after_setup» = 7;
-      distribution = distributionFrom 8;
-      «after_distribution» = 18;
+      setup = setupMarks;
+      «after_setup» = 1;
+      distribution = distributionMarks;
+      «after_distribution» = 2;
       call = markedCall;
-      «after_call» = 30;
-      answer = answerFrom 31;
-      «after_answer» = 37;
-      look = lookFrom 38;
-      «after_look» = 46;
-      setting = settingFrom 47;
-      «after_setting» = 51;
-      internal = internalFrom 52;
-      «after_internal» = 55;
-      trial = completedFrom 56;
-      «after_trial» = 58;
+      «after_call» = 3;
+      answer = answerMarks;
+      «after_answer» = 4;
+      look = lookMarks;
+      «after_look» = 5;
+      setting = settingMarks;
+      «after_setting» = 6;
+      internal = internalMarks;
+      «after_internal» = 7;
+      trial = completedMarks;
+      «after_trial» = 8;
       state = markedState;
-      «after_state» = 131;
+      «after_state» = 9;
     }

@@ -1,13 +1,7 @@
-// One of each struct that crosses, filled with 1, 2, 3 .. in the order of declaration, so that a caller can hold its own
-// layout against the library's. Of an array only the first and the last element are numbered, and every choice of the first
-// candidate; the rest is 0. A double holds its number as a double.
-//   setup 1 to 6, after_setup 7; distribution 8 to 17, after_distribution 18; call 19 to 29, after_call 30;
-//   answer 31 to 36, after_answer 37; look 38 to 45 (its values: 44 first, 45 last), after_look 46;
-//   setting 47 to 50, after_setting 51; internal 52 to 54, after_internal 55; trial 56 and 57, after_trial 58;
-//   state: setup 59 to 64, named 65, first 66, discovered 67, n 68, n_dims 69, dims 70 to 79 first and 80 to 89 last,
-//   candidates first: x 90 first and 91 last, choices 92 to 107; last: x 108 and 109, choices 110 and 111;
-//   parents first: x 112 and 113, choices 114 and 115, value 116; last: 117 to 121 in the same way;
-//   n_trials 122, trials 123 and 124 first, 125 and 126 last, best 127, word 128, closed 129, idle 130; after_state 131.
+// One of each struct that crosses, so that a caller can hold its own layout against the library's. Each struct numbers its own
+// fields from 1 on in the order of declaration: a number takes the next one, a double holds it as a double, an array of numbers takes
+// two, in its first and its last place. A field that is a struct holds that struct's own marks, an array of structs holds them in its
+// first and its last place; neither takes a number. So a field more in one struct renumbers nothing in another. The rest is 0.
 ghost use mathlib.Core.Path.{_≡_};
 ghost use Rattle.exports.specs.Marks.{markedDims, markedCandidates, markedParents, markedTrials, markedState, markedCall, marks};
 use crate::answers::DeAnswer;
@@ -18,17 +12,16 @@ use crate::flat::DeState;
 use crate::internal::DeInternal;
 use crate::internal::DeSetting;
 use crate::look::DeLook;
-use crate::numbered::answer_from;
-use crate::numbered::candidate_from;
-use crate::numbered::completed_from;
-use crate::numbered::distribution_from;
-use crate::numbered::first_candidate;
-use crate::numbered::internal_from;
-use crate::numbered::look_from;
-use crate::numbered::member_from;
-use crate::numbered::setting_from;
-use crate::numbered::setup_from;
-use crate::numbered::trial_from;
+use crate::numbered::answer_marks;
+use crate::numbered::candidate_marks;
+use crate::numbered::completed_marks;
+use crate::numbered::distribution_marks;
+use crate::numbered::internal_marks;
+use crate::numbered::look_marks;
+use crate::numbered::member_marks;
+use crate::numbered::progress_marks;
+use crate::numbered::setting_marks;
+use crate::numbered::setup_marks;
 use candidates::Candidate;
 use candidates::blank_candidate;
 use evolution::Member;
@@ -74,8 +67,8 @@ fn marked_dims() -> [DeDistribution; 16]
         n_choices: 0,
     };
     let mut dims = [blank; 16];
-    dims[0] = distribution_from(70);
-    dims[15] = distribution_from(80);
+    dims[0] = distribution_marks();
+    dims[15] = distribution_marks();
     dims
 }
 
@@ -84,8 +77,8 @@ fn marked_candidates() -> [Candidate; 224]
 {
     let blank = blank_candidate();
     let mut candidates = [blank; 224];
-    candidates[0] = first_candidate();
-    candidates[223] = candidate_from(108);
+    candidates[0] = candidate_marks();
+    candidates[223] = candidate_marks();
     candidates
 }
 
@@ -94,8 +87,8 @@ fn marked_parents() -> [Member; 160]
 {
     let blank = blank_member();
     let mut parents = [blank; 160];
-    parents[0] = member_from(112);
-    parents[159] = member_from(117);
+    parents[0] = member_marks();
+    parents[159] = member_marks();
     parents
 }
 
@@ -107,44 +100,44 @@ fn marked_trials() -> [TrialProgress; 224]
         next_dim: 0,
     };
     let mut trials = [blank; 224];
-    trials[0] = trial_from(123);
-    trials[223] = trial_from(125);
+    trials[0] = progress_marks();
+    trials[223] = progress_marks();
     trials
 }
 
 fn marked_state() -> DeState
     ensures { λ r. ⌜ r ≡ markedState ⌝ }
 {
-    let setup = setup_from(59);
+    let setup = setup_marks();
     let dims = marked_dims();
     let candidates = marked_candidates();
     let parents = marked_parents();
     let trials = marked_trials();
     DeState {
         setup,
-        named: 65,
-        first: 66,
-        discovered: 67,
-        n: 68,
-        n_dims: 69,
+        named: 1,
+        first: 2,
+        discovered: 3,
+        n: 4,
+        n_dims: 5,
         dims,
         candidates,
         parents,
-        n_trials: 122,
+        n_trials: 6,
         trials,
-        best: 127,
-        word: 128,
-        closed: 129,
-        idle: 130,
+        best: 7,
+        word: 8,
+        closed: 9,
+        idle: 10,
     }
 }
 
 fn marked_call() -> DeCall
     ensures { λ r. ⌜ r ≡ markedCall ⌝ }
 {
-    let distribution = distribution_from(20);
+    let distribution = distribution_marks();
     DeCall {
-        trial: 19,
+        trial: 1,
         distribution,
     }
 }
@@ -152,33 +145,33 @@ fn marked_call() -> DeCall
 pub fn marked() -> DeMarks
     ensures { λ r. ⌜ r ≡ marks ⌝ }
 {
-    let setup = setup_from(1);
-    let distribution = distribution_from(8);
+    let setup = setup_marks();
+    let distribution = distribution_marks();
     let call = marked_call();
-    let look = look_from(38);
+    let look = look_marks();
     let state = marked_state();
-    let answer = answer_from(31);
-    let setting = setting_from(47);
-    let internal = internal_from(52);
-    let trial = completed_from(56);
+    let answer = answer_marks();
+    let setting = setting_marks();
+    let internal = internal_marks();
+    let trial = completed_marks();
     DeMarks {
         setup,
-        after_setup: 7,
+        after_setup: 1,
         distribution,
-        after_distribution: 18,
+        after_distribution: 2,
         call,
-        after_call: 30,
+        after_call: 3,
         answer,
-        after_answer: 37,
+        after_answer: 4,
         look,
-        after_look: 46,
+        after_look: 5,
         setting,
-        after_setting: 51,
+        after_setting: 6,
         internal,
-        after_internal: 55,
+        after_internal: 7,
         trial,
-        after_trial: 58,
+        after_trial: 8,
         state,
-        after_state: 131,
+        after_state: 9,
     }
 }

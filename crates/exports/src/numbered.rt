@@ -1,6 +1,6 @@
-// The structs that cross, each numbered from k on, in the order of declaration.
+// The small structs that cross, each with its own fields numbered from 1 on in the order of declaration (specs/Marks).
 ghost use mathlib.Core.Path.{_≡_};
-ghost use Rattle.exports.specs.Marks.{setupFrom, distributionFrom, candidateFrom, firstCandidate, memberFrom, trialFrom, lookFrom, answerFrom, settingFrom, internalFrom, completedFrom};
+ghost use Rattle.exports.specs.Marks.{setupMarks, distributionMarks, candidateMarks, memberMarks, progressMarks, lookMarks, answerMarks, settingMarks, internalMarks, completedMarks};
 use crate::answers::DeAnswer;
 use crate::flat::DeDistribution;
 use crate::flat::DeSetup;
@@ -11,163 +11,124 @@ use candidates::Candidate;
 use evolution::Member;
 use history::CompletedTrial;
 use state::TrialProgress;
-use std::num::nearest_u64_to_f64;
 
-pub fn setup_from(k: u8) -> DeSetup
-    ensures { λ r. ⌜ r ≡ setupFrom k ⌝ }
+pub fn setup_marks() -> DeSetup
+    ensures { λ r. ⌜ r ≡ setupMarks ⌝ }
 {
-    let n = k as u64;
     DeSetup {
-        mutation_factor: nearest_u64_to_f64(n),
-        crossover_rate: nearest_u64_to_f64(n + 1),
-        strategy: n + 2,
-        sized: n + 3,
-        population_size: n + 4,
-        seed: n + 5,
+        mutation_factor: 1.0,
+        crossover_rate: 2.0,
+        strategy: 3,
+        sized: 4,
+        population_size: 5,
+        seed: 6,
     }
 }
 
-pub fn distribution_from(k: u8) -> DeDistribution
-    ensures { λ r. ⌜ r ≡ distributionFrom k ⌝ }
+pub fn distribution_marks() -> DeDistribution
+    ensures { λ r. ⌜ r ≡ distributionMarks ⌝ }
 {
-    let n = k as u64;
     DeDistribution {
-        kind: n,
-        low: nearest_u64_to_f64(n + 1),
-        high: nearest_u64_to_f64(n + 2),
-        whole_low: (n + 3) as i64,
-        whole_high: (n + 4) as i64,
-        log_scale: n + 5,
-        stepped: n + 6,
-        step: nearest_u64_to_f64(n + 7),
-        whole_step: (n + 8) as i64,
-        n_choices: n + 9,
+        kind: 1,
+        low: 2.0,
+        high: 3.0,
+        whole_low: 4,
+        whole_high: 5,
+        log_scale: 6,
+        stepped: 7,
+        step: 8.0,
+        whole_step: 9,
+        n_choices: 10,
     }
 }
 
-pub fn candidate_from(k: u8) -> Candidate
-    ensures { λ r. ⌜ r ≡ candidateFrom k ⌝ }
+pub fn candidate_marks() -> Candidate
+    ensures { λ r. ⌜ r ≡ candidateMarks ⌝ }
 {
-    let n = k as u64;
-    let m = k as u16;
     let mut x = [0.0f64; 16];
     let mut choices = [0u16; 16];
-    x[0] = nearest_u64_to_f64(n);
-    x[15] = nearest_u64_to_f64(n + 1);
-    choices[0] = m + 2;
-    choices[15] = m + 3;
+    x[0] = 1.0;
+    x[15] = 2.0;
+    choices[0] = 3;
+    choices[15] = 4;
     Candidate { x, choices }
 }
 
-pub fn first_candidate() -> Candidate
-    ensures { λ r. ⌜ r ≡ firstCandidate ⌝ }
+pub fn member_marks() -> Member
+    ensures { λ r. ⌜ r ≡ memberMarks ⌝ }
 {
-    let mut x = [0.0f64; 16];
-    x[0] = nearest_u64_to_f64(90);
-    x[15] = nearest_u64_to_f64(91);
-    let choices = [
-        92,
-        93,
-        94,
-        95,
-        96,
-        97,
-        98,
-        99,
-        100,
-        101,
-        102,
-        103,
-        104,
-        105,
-        106,
-        107,
-    ];
-    Candidate { x, choices }
-}
-
-pub fn member_from(k: u8) -> Member
-    ensures { λ r. ⌜ r ≡ memberFrom k ⌝ }
-{
-    let n = k as u64;
-    let candidate = candidate_from(k);
+    let candidate = candidate_marks();
     Member {
         candidate,
-        value: nearest_u64_to_f64(n + 4),
+        value: 1.0,
     }
 }
 
-pub fn look_from(k: u8) -> DeLook
-    ensures { λ r. ⌜ r ≡ lookFrom k ⌝ }
+pub fn progress_marks() -> TrialProgress
+    ensures { λ r. ⌜ r ≡ progressMarks ⌝ }
 {
-    let n = k as u64;
+    TrialProgress {
+        number: 1,
+        next_dim: 2,
+    }
+}
+
+pub fn look_marks() -> DeLook
+    ensures { λ r. ⌜ r ≡ lookMarks ⌝ }
+{
     let mut values = [0.0f64; 160];
-    values[0] = nearest_u64_to_f64(n + 6);
-    values[159] = nearest_u64_to_f64(n + 7);
+    values[0] = 7.0;
+    values[159] = 8.0;
     DeLook {
-        kind: n,
-        refusal: n + 1,
-        best: (n + 2) as usize,
-        n: (n + 3) as usize,
-        closed: n + 4,
-        idle: n + 5,
+        kind: 1,
+        refusal: 2,
+        best: 3,
+        n: 4,
+        closed: 5,
+        idle: 6,
         values,
     }
 }
 
-pub fn trial_from(k: u8) -> TrialProgress
-    ensures { λ r. ⌜ r ≡ trialFrom k ⌝ }
+pub fn answer_marks() -> DeAnswer
+    ensures { λ r. ⌜ r ≡ answerMarks ⌝ }
 {
-    let n = k as u64;
-    TrialProgress {
-        number: n,
-        next_dim: (n + 1) as usize,
-    }
-}
-
-pub fn answer_from(k: u8) -> DeAnswer
-    ensures { λ r. ⌜ r ≡ answerFrom k ⌝ }
-{
-    let n = k as u64;
     DeAnswer {
-        kind: n,
-        refusal: n + 1,
-        real: nearest_u64_to_f64(n + 2),
-        whole: (n + 3) as i64,
-        choice: n + 4,
-        draws: n + 5,
+        kind: 1,
+        refusal: 2,
+        real: 3.0,
+        whole: 4,
+        choice: 5,
+        draws: 6,
     }
 }
 
-pub fn setting_from(k: u8) -> DeSetting
-    ensures { λ r. ⌜ r ≡ settingFrom k ⌝ }
+pub fn setting_marks() -> DeSetting
+    ensures { λ r. ⌜ r ≡ settingMarks ⌝ }
 {
-    let n = k as u64;
     DeSetting {
-        kind: n,
-        real: nearest_u64_to_f64(n + 1),
-        whole: (n + 2) as i64,
-        choice: n + 3,
+        kind: 1,
+        real: 2.0,
+        whole: 3,
+        choice: 4,
     }
 }
 
-pub fn internal_from(k: u8) -> DeInternal
-    ensures { λ r. ⌜ r ≡ internalFrom k ⌝ }
+pub fn internal_marks() -> DeInternal
+    ensures { λ r. ⌜ r ≡ internalMarks ⌝ }
 {
-    let n = k as u64;
     DeInternal {
-        kind: n,
-        refusal: n + 1,
-        value: nearest_u64_to_f64(n + 2),
+        kind: 1,
+        refusal: 2,
+        value: 3.0,
     }
 }
 
-pub fn completed_from(k: u8) -> CompletedTrial
-    ensures { λ r. ⌜ r ≡ completedFrom k ⌝ }
+pub fn completed_marks() -> CompletedTrial
+    ensures { λ r. ⌜ r ≡ completedMarks ⌝ }
 {
-    let n = k as u64;
     CompletedTrial {
-        number: n,
-        value: nearest_u64_to_f64(n + 1),
+        number: 1,
+        value: 2.0,
     }
 }

@@ -3,11 +3,11 @@ use borrow.Author.Needs.{needs}
 use Rattle.exports.proofs.marks.marked_call.Statement.{statement}
 use Rattle.exports.proofs.marks.marked_call.Tie as tie
 
-distribution-from-requires : tie.Need-distribution-from-requires
-distribution-from-requires c κs = search needs
+distribution-marks-requires : tie.Need-distribution-marks-requires
+distribution-marks-requires c κs = search needs
 
 returns : tie.Need-returns
-returns c = rw (c .distribution-from .ensures)
+returns c = rw (c .distribution-marks .ensures)
 
 pub marked-call-spec : {M : Type 1} → statement M
-marked-call-spec = tie.close (tie.spec distribution-from-requires returns)
+marked-call-spec = tie.close (tie.spec distribution-marks-requires returns)

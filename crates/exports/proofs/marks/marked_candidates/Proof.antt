@@ -7,29 +7,29 @@ use Rattle.exports.proofs.marks.marked_candidates.Tie as tie
 blank-candidate-requires : tie.Need-blank-candidate-requires
 blank-candidate-requires c κs = search needs
 
-first-candidate-requires : tie.Need-first-candidate-requires
-first-candidate-requires c κs = search needs
+candidate-marks-requires : tie.Need-candidate-marks-requires
+candidate-marks-requires c κs = search needs
 
 array-set-from-candidates : tie.Need-array-set-from-candidates
 array-set-from-candidates c = search needs
 
-candidate-from-requires : tie.Need-candidate-from-requires
-candidate-from-requires c κs = search needs
+candidate-marks-requires-2 : tie.Need-candidate-marks-requires-2
+candidate-marks-requires-2 c κs = search needs
 
 array-set-from-candidates-2 : tie.Need-array-set-from-candidates-2
 array-set-from-candidates-2 c = search needs
 
 returns : tie.Need-returns
 unfolding markedCandidates
-returns c = λ i. ends 224 (c .before .before .blank-candidate .ensures i) 223 (c .before .first-candidate .ensures i) (c .candidate-from .ensures i)
+returns c = λ i. ends 224 (c .before .before .blank-candidate .ensures i) 223 (c .before .candidate-marks .ensures i) (c .candidate-marks2 .ensures i)
 
 pub marked-candidates-spec : {M : Type 1} → statement M
 marked-candidates-spec =
     tie.close
     (tie.spec
     blank-candidate-requires
-    first-candidate-requires
+    candidate-marks-requires
     array-set-from-candidates
-    candidate-from-requires
+    candidate-marks-requires-2
     array-set-from-candidates-2
     returns)

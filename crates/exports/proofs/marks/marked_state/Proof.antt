@@ -4,8 +4,8 @@ use Rattle.exports.specs.Marks.{markedState}
 use Rattle.exports.proofs.marks.marked_state.Statement.{statement}
 use Rattle.exports.proofs.marks.marked_state.Tie as tie
 
-setup-from-requires : tie.Need-setup-from-requires
-setup-from-requires c κs = search needs
+setup-marks-requires : tie.Need-setup-marks-requires
+setup-marks-requires c κs = search needs
 
 marked-dims-requires : tie.Need-marked-dims-requires
 marked-dims-requires c κs = search needs
@@ -21,13 +21,13 @@ marked-trials-requires c κs = search needs
 
 returns : tie.Need-returns
 unfolding markedState
-returns c = rw (c .before .before .before .before .setup-from .ensures, c .before .before .before .marked-dims .ensures, c .before .before .marked-candidates .ensures, c .before .marked-parents .ensures, c .marked-trials .ensures)
+returns c = rw (c .before .before .before .before .setup-marks .ensures, c .before .before .before .marked-dims .ensures, c .before .before .marked-candidates .ensures, c .before .marked-parents .ensures, c .marked-trials .ensures)
 
 pub marked-state-spec : {M : Type 1} → statement M
 marked-state-spec =
     tie.close
     (tie.spec
-    setup-from-requires
+    setup-marks-requires
     marked-dims-requires
     marked-candidates-requires
     marked-parents-requires

@@ -5,28 +5,28 @@ use Rattle.exports.specs.Marks.{ends, markedTrials}
 use Rattle.exports.proofs.marks.marked_trials.Statement.{statement}
 use Rattle.exports.proofs.marks.marked_trials.Tie as tie
 
-trial-from-requires : tie.Need-trial-from-requires
-trial-from-requires c κs = search needs
+progress-marks-requires : tie.Need-progress-marks-requires
+progress-marks-requires c κs = search needs
 
 array-set-from-trials : tie.Need-array-set-from-trials
 array-set-from-trials c = search needs
 
-trial-from-requires-2 : tie.Need-trial-from-requires-2
-trial-from-requires-2 c κs = search needs
+progress-marks-requires-2 : tie.Need-progress-marks-requires-2
+progress-marks-requires-2 c κs = search needs
 
 array-set-from-trials-2 : tie.Need-array-set-from-trials-2
 array-set-from-trials-2 c = search needs
 
 returns : tie.Need-returns
 unfolding markedTrials
-returns c = λ i. ends 224 blankTrial 223 (c .before .trial-from .ensures i) (c .trial-from2 .ensures i)
+returns c = λ i. ends 224 blankTrial 223 (c .before .progress-marks .ensures i) (c .progress-marks2 .ensures i)
 
 pub marked-trials-spec : {M : Type 1} → statement M
 marked-trials-spec =
     tie.close
     (tie.spec
-    trial-from-requires
+    progress-marks-requires
     array-set-from-trials
-    trial-from-requires-2
+    progress-marks-requires-2
     array-set-from-trials-2
     returns)
