@@ -1,12 +1,15 @@
 -- Nothing is lost at the edge: a state that goes out as numbers is known and comes back as it was. So a call on a state that the library holds is the
 -- sampler's own call, and what is proved of the sampler holds of the library.
-use mathlib.Core.Path.{_≡_, refl, _∙_}
+use mathlib.Core.Path.{_≡_, refl, ap, _∙_}
 use mathlib.Core.Bool.{Bool, true, false, cond}
 use mathlib.Core.List.{List, [], _∷_, map}
 use lib.Dec.{eqb, leb}
 use lib.Ieee.{Float}
 use lib.IntN.{ℤ}
 use Rattle.ledger.specs.Words.{all}
+use Rattle.ledger.specs.State as Plain
+use Rattle.ledger.specs.State.{Result}
+use Rattle.kernel.specs.De.{de}
 use Rattle.distribution.specs.declared.DimensionInfo.{DimensionInfo}
 use Rattle.distribution.specs.declared.Distribution.{Distribution}
 use Rattle.distribution.specs.declared.Distribution.the-variants as D
@@ -26,14 +29,12 @@ use Rattle.state.specs.declared.State.{State}
 use Rattle.state.proofs.Flags.{and-true}
 use Rattle.state.proofs.Laid.{back}
 use Rattle.de.specs.Sample.{sampleOf}
-use Rattle.de.specs.declared.Answer.{Answer}
-use Rattle.de.specs.declared.Answer.the-variants.{Setting, Refused}
-use Rattle.de.specs.declared.Sampled.{Sampled}
 use Rattle.exports.specs.declared.answers.DeCall.{DeCall}
 use Rattle.exports.specs.declared.flat.DeState.{DeState}
 use Rattle.exports.specs.Flat.{bit, strategyOf, flatStrategy, sizeOf, flatSized, flatSize, setupOf, flatSetup, floatBy, intBy, distributionOf, flatDistribution, dimOf, flatDim, firstOf, flatNamed, flatFirst, openWith, openOf, flatOf}
 use Rattle.exports.specs.Known.{knownSetup, knownDistribution, knownWith, knownState}
-use Rattle.exports.specs.Answers.{answered, settledOf, sampleAnswer, sampleState}
+use Rattle.exports.specs.declared.answers.Settled.{Settled}
+use Rattle.exports.specs.Answers.{bareAnswer, unknown, answered, settledOf, sampledFrom, settledSample, sampleAnswer, sampleState}
 
 -- ---- the parts
 
@@ -166,12 +167,12 @@ flat-known s = and-true (and-true (and-true (setup-known (s .setup)) (first-know
 -- ---- one call on a state that goes out as numbers: the sampler's own answer, and the memory holds the sampler's own state after a setting
 
 -- what the memory holds after an answer
-abbrev pub heldAfter : Answer → State → State → DeState
-heldAfter (Setting x) old new = flatOf new
-heldAfter (Refused r) old new = flatOf old
+abbrev pub heldAfter : Plain.Answer de → State → State → DeState
+heldAfter (Plain.given x) old new = flatOf new
+heldAfter (Plain.refused n) old new = flatOf old
 
 module _ (s : State) (c : DeCall) (h : List CompletedTrial) (k : knownDistribution (c .distribution) ≡ true) where
-  abbrev after : State → Sampled
+  abbrev after : State → Result de State
   after t = sampleOf t (distributionOf (c .distribution)) (c .trial) h
 
   pub one-answer : sampleAnswer (flatOf s) c h ≡ (answered (after s .answer) (after s .draws)) .answer
@@ -182,6 +183,35 @@ module _ (s : State) (c : DeCall) (h : List CompletedTrial) (k : knownDistributi
   unfolding sampleState settledOf
   one-state = (λ i. cond ((settledOf (k i) (flat-known s i) (after (lossless s i) .answer) (after (lossless s i) .draws)) .stores) (flatOf (after (lossless s i) .state)) (flatOf s)) ∙ go (after s .answer)
     where
-      go : (a : Answer) → cond ((answered a (after s .draws)) .stores) (flatOf (after s .state)) (flatOf s) ≡ heldAfter a s (after s .state)
-      go (Setting x) = refl
-      go (Refused r) = refl
+      go : (a : Plain.Answer de) → cond ((answered a (after s .draws)) .stores) (flatOf (after s .state)) (flatOf s) ≡ heldAfter a s (after s .state)
+      go (Plain.given x) = refl
+      go (Plain.refused n) = refl
+
+-- ---- what a call's numbers stand for decides all; a number that names no case leaves the memory as it was
+
+module _ (f : DeState) (h : List CompletedTrial) where
+  -- two known spellings of one call
+  module _ (c c′ : DeCall) (k : knownDistribution (c .distribution) ≡ knownDistribution (c′ .distribution)) (d : distributionOf (c .distribution) ≡ distributionOf (c′ .distribution)) (n : c .trial ≡ c′ .trial) where
+    settled-alike : settledSample f c h ≡ settledSample f c′ h
+    settled-alike = λ i. settledOf (k i) (knownState f) (sampleOf (openOf f) (d i) (n i) h .answer) (sampleOf (openOf f) (d i) (n i) h .draws)
+
+    pub same-answer : sampleAnswer f c h ≡ sampleAnswer f c′ h
+    unfolding sampleAnswer
+    same-answer = ap (λ (z : Settled). z .answer) settled-alike
+
+    pub same-state : sampleState f c h ≡ sampleState f c′ h
+    unfolding sampleState
+    same-state = λ i. cond ((settled-alike i) .stores) (flatOf (sampleOf (openOf f) (d i) (n i) h .state)) f
+
+  module _ (c : DeCall) (k : knownDistribution (c .distribution) ≡ false) where
+    settled-unknown : settledSample f c h ≡ unknown
+    unfolding settledOf
+    settled-unknown = ap (λ (b : Bool). settledOf b (knownState f) (sampledFrom f c h .answer) (sampledFrom f c h .draws)) k
+
+    pub unknown-answer : sampleAnswer f c h ≡ bareAnswer 4 0
+    unfolding sampleAnswer
+    unknown-answer = ap (λ (z : Settled). z .answer) settled-unknown
+
+    pub unknown-state : sampleState f c h ≡ f
+    unfolding sampleState
+    unknown-state = ap (λ (z : Settled). cond (z .stores) (flatOf (sampledFrom f c h .state)) f) settled-unknown

@@ -4,14 +4,14 @@ use mathlib.Core.Bool.{Bool, true, false, cond}
 use mathlib.Core.List.{List}
 use lib.IntN.{pos}
 use Rattle.common.specs.Bounds.{zeroF}
-use Rattle.distribution.specs.Refusals.{refusalNumber}
 use Rattle.distribution.specs.declared.ParamValue.{ParamValue}
 use Rattle.distribution.specs.declared.ParamValue.the-variants as P
 use Rattle.history.specs.declared.CompletedTrial.{CompletedTrial}
+use Rattle.ledger.specs.State as Plain
+use Rattle.ledger.specs.State.{Result}
+use Rattle.kernel.specs.De.{de}
+use Rattle.state.specs.declared.State.{State}
 use Rattle.de.specs.Sample.{sampleOf}
-use Rattle.de.specs.declared.Answer.{Answer}
-use Rattle.de.specs.declared.Answer.the-variants.{Setting, Refused}
-use Rattle.de.specs.declared.Sampled.{Sampled}
 use Rattle.exports.specs.declared.flat.DeState.{DeState}
 use Rattle.exports.specs.declared.answers.DeCall.{DeCall}
 use Rattle.exports.specs.declared.answers.DeAnswer.{DeAnswer}
@@ -37,12 +37,12 @@ unknown = record { stores = false; answer = bareAnswer 4 0 }
 abbrev pub refusedBy : ℕ → Settled
 refusedBy n = record { stores = false; answer = bareAnswer 0 n }
 
-abbrev pub answered : Answer → ℕ → Settled
-answered (Setting x) draws = record { stores = true; answer = settingAnswer x draws }
-answered (Refused r) draws = refusedBy (refusalNumber r)
+abbrev pub answered : Plain.Answer de → ℕ → Settled
+answered (Plain.given x) draws = record { stores = true; answer = settingAnswer x draws }
+answered (Plain.refused n) draws = refusedBy n
 
 -- a state with a number that names no case is refusal 0
-unfoldable pub settledOf : Bool → Bool → Answer → ℕ → Settled
+unfoldable pub settledOf : Bool → Bool → Plain.Answer de → ℕ → Settled
 settledOf call state answer draws = cond call (cond state (answered answer draws) (refusedBy 0)) unknown
 
 unfoldable pub questionOf : DeState → DeCall → Question
@@ -51,7 +51,7 @@ questionOf f c = record { «known_call» = knownDistribution (c .distribution); 
 -- ---- the call
 
 -- what the sampler makes of the opened state and call
-abbrev pub sampledFrom : DeState → DeCall → List CompletedTrial → Sampled
+abbrev pub sampledFrom : DeState → DeCall → List CompletedTrial → Result de State
 sampledFrom f c h = sampleOf (openOf f) (distributionOf (c .distribution)) (c .trial) h
 
 abbrev pub settledSample : DeState → DeCall → List CompletedTrial → Settled

@@ -3,6 +3,7 @@ pub mod Known
 pub mod Answers
 pub mod Build
 pub mod Look
+pub mod Held
 pub mod Internal
 pub mod Marks
 pub mod Program

@@ -1,6 +1,7 @@
 // What a sample call is asked and what it answers, in numbers. Fields that a kind does not use are 0.
 ghost use mathlib.Core.Path.{_≡_};
 ghost use Rattle.distribution.specs.Refusals.{refusalNumber};
+ghost use Rattle.de.specs.Answer.{plainAnswer};
 ghost use Rattle.exports.specs.Answers.{bareAnswer, settingAnswer, settledOf, questionOf};
 use crate::flat::DeDistribution;
 use crate::flat::DeState;
@@ -23,7 +24,7 @@ pub struct DeCall {
 }
 
 // kind: 0 refused, with document 01's number; 1 float, 2 int, 3 choice; 4 a number of the call or set-up names no case; 5 a
-// state is made.
+// state is made; 6 there is no such slot or dimension.
 #[repr(C)]
 pub struct DeAnswer {
     pub kind: u64,
@@ -80,7 +81,7 @@ pub fn bare_answer(kind: u64, refusal: u64) -> DeAnswer
     }
 }
 
-fn setting_answer(setting: ParamValue, draws: u64) -> DeAnswer
+pub fn setting_answer(setting: ParamValue, draws: u64) -> DeAnswer
     ensures { λ r. ⌜ r ≡ settingAnswer setting draws ⌝ }
 {
     match setting {
@@ -129,7 +130,7 @@ pub fn open_call(s: DeState, call: DeCall) -> Question
 
 // The answer that goes out. Only a setting stores the state after it.
 pub fn settle(known_call: bool, known_state: bool, answer: Answer, draws: u64) -> Settled
-    ensures { λ r. ⌜ r ≡ settledOf «known_call» «known_state» answer draws ⌝ }
+    ensures { λ r. ⌜ r ≡ settledOf «known_call» «known_state» (plainAnswer answer) draws ⌝ }
 {
     if !known_call {
         let a = bare_answer(4, 0);

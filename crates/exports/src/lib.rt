@@ -4,6 +4,7 @@ ghost use mathlib.Core.Path.{_≡_};
 ghost use Rattle.exports.specs.Build.{newAnswer, newState};
 ghost use Rattle.exports.specs.Answers.{sampleAnswer, sampleState};
 ghost use Rattle.exports.specs.Look.{lookAt};
+ghost use Rattle.exports.specs.Held.{heldAt};
 ghost use Rattle.exports.specs.Internal.{internalOf};
 ghost use Rattle.exports.specs.Marks.{marks};
 use answers::DeAnswer;
@@ -17,6 +18,7 @@ use flat::DeDistribution;
 use flat::DeSetup;
 use flat::DeState;
 use flatten::flatten;
+use held::held_at;
 use history::CompletedTrial;
 use internal::DeInternal;
 use internal::DeSetting;
@@ -30,6 +32,7 @@ pub mod answers;
 pub mod build;
 pub mod flat;
 pub mod flatten;
+pub mod held;
 pub mod internal;
 pub mod known;
 pub mod look;
@@ -72,6 +75,15 @@ pub extern "C" fn de_look(state: &DeState) -> DeLook
 {
     let s = *state;
     look_at(s)
+}
+
+// The setting that a slot holds in a dimension.
+#[no_mangle]
+pub extern "C" fn de_slot_setting(state: &DeState, slot: u64, dimension: u64) -> DeAnswer
+    ensures { λ r. ⌜ r ≡ heldAt (now (state .entry)) slot dimension ⌝ }
+{
+    let s = *state;
+    held_at(s, slot, dimension)
 }
 
 #[no_mangle]

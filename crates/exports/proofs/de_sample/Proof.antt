@@ -49,6 +49,10 @@ use Rattle.history.proofs.CompletedTrial as T
 use Rattle.history.proofs.Called.{returned}
 use Rattle.state.proofs.State as S
 use Rattle.state.proofs.State.Laws as S′
+use Rattle.ledger.specs.State.{Result}
+use Rattle.kernel.specs.De.{de}
+use Rattle.state.specs.declared.State.{State}
+use Rattle.de.specs.Answer.{plainAnswer, numbered}
 use Rattle.de.specs.Sample.{sampleOf}
 use Rattle.de.specs.declared.Sampled.{Sampled}
 use Rattle.de.proofs.Answer as N
@@ -102,9 +106,9 @@ abbrev stayed : Stays (f.ended .signature .params) (f.ended .kept)
 stayed = (stay-ref (0 ∷ []) tt (plain (λ _. F.the-row)), (stay-none (λ _. Q.the-row) yes, (stay-none-slice (1 ∷ []) tt (plain (λ _. T.the-row)) yes, tt)))
 
 -- ---- what goes out, and what is left in memory
-module _ (s : DeState) (c : DeCall) (ys : List CompletedTrial) (k : Question) (r : Sampled) (p : Settled) (e₁ : k ≡ questionOf s c) (e₂ : r ≡ sampleOf (k .state) (k .distribution) (c .trial) ys)
-    (e₃ : p ≡ settledOf (k .«known_call») (k .«known_state») (r .answer) (r .draws)) where
-  sampled : r ≡ sampledFrom s c ys
+module _ (s : DeState) (c : DeCall) (ys : List CompletedTrial) (k : Question) (r : Sampled) (p : Settled) (e₁ : k ≡ questionOf s c) (e₂ : numbered r ≡ sampleOf (k .state) (k .distribution) (c .trial) ys)
+    (e₃ : p ≡ settledOf (k .«known_call») (k .«known_state») (plainAnswer (r .answer)) (r .draws)) where
+  sampled : numbered r ≡ sampledFrom s c ys
   unfolding questionOf
   sampled = e₂ ∙ ap (λ (z : Question). sampleOf (z .state) (z .distribution) (c .trial) ys) e₁
 
@@ -118,7 +122,7 @@ module _ (s : DeState) (c : DeCall) (ys : List CompletedTrial) (k : Question) (r
 
   left-is : (d : DeState) → Holds (p .stores) → d ≡ flatOf (r .state) → d ≡ sampleState s c ys
   unfolding sampleState
-  left-is d h w = stored (flatOf (sampledFrom s c ys .state)) s h (ap (λ (z : Settled). z .stores) settled) (w ∙ ap (λ (z : Sampled). flatOf (z .state)) sampled)
+  left-is d h w = stored (flatOf (sampledFrom s c ys .state)) s h (ap (λ (z : Settled). z .stores) settled) (w ∙ ap (λ (z : Result de State). flatOf (z .state)) sampled)
 
   kept-is : Holds (not (p .stores)) → s ≡ sampleState s c ys
   unfolding sampleState
@@ -263,14 +267,14 @@ module _ {M : Type 1} (𝓤 : URA M) (H : Heap 𝓤) (A : Atoms 𝓤) (W : Given
               -- [what `sample` asks; the state's cell; the open borrow; obs; auth; _9 at 5; _8 at 7; _7 at 9; _6 at 11; _5 at 13; _4 at 15; _3 at 17; _2 at 19; _1 at 21; _0 at 23; Slice; true]
               calls-at ! fm (Sample 𝓤 H A at-mem run) known-sample (to-sample k (vs k) (vd k)) (and-then ! (load ! (from ! (fld ! refl (stop !))) (look-in ! 15 (sub ! 3 refl (whole !)))) (and-then ! (load ! (from ! (fld ! refl (stop !))) (look-in ! 15 (sub ! 2 refl (whole !))))
               (and-then ! (load ! (from ! (fld ! refl (stop !))) (look-in ! 19 (sub ! 0 refl (whole !)))) (and-then ! (load ! (from ! (stop !)) (look ! 17 refl)) (no-more !))))) (λ v₂.
-              returned ! tt sample.ended (sample.clauses 𝓤 H A at-mem run) (to-sample k (vs k) (vd k)) v₂ (λ r. r ≡ sampleOf (k .state) (k .distribution) (c .trial) ys) (λ r ws. id⊢ 𝓤 _) (λ r is₂ e₂.
+              returned ! tt sample.ended (sample.clauses 𝓤 H A at-mem run) (to-sample k (vs k) (vd k)) v₂ (λ r. numbered r ≡ sampleOf (k .state) (k .distribution) (c .trial) ys) (λ r ws. id⊢ 𝓤 _) (λ r is₂ e₂.
               land ! (from ! (stop !)) (init ! 13 refl (typed-sampled r _ is₂)) $
               rewrite ! 13 (λ (z : Val). ‵ (fat fullShare τr l₅ 0 z)) (spelt-sampled r _ is₂) refl $
               use0 W (raw (Settle 𝓤 H A at-mem run .pre (to-settle k r (va r)))) (settle-pre k r (va r) (sampled-answer r _ is₂) (sampled-draws r _ is₂)) $
               -- [what `settle` asks; the history's token; the state's cell; the open borrow; obs; auth; _9 at 6; _8 at 8; _7 at 10; _6 at 12; _5 at 14; _4 at 16; …; _0 at 24; Slice; true]
               calls-at ! fm (Settle 𝓤 H A at-mem run) known-settle (to-settle k r (va r)) (and-then ! (load ! (from ! (fld ! refl (stop !))) (look-in ! 16 (sub ! 0 refl (whole !)))) (and-then ! (load ! (from ! (fld ! refl (stop !))) (look-in ! 16 (sub ! 1 refl (whole !))))
               (and-then ! (load ! (from ! (fld ! refl (stop !))) (look-in ! 14 (sub ! 0 refl (whole !)))) (and-then ! (load ! (from ! (fld ! refl (stop !))) (look-in ! 14 (sub ! 2 refl (whole !)))) (no-more !))))) (λ v₃.
-              returned ! tt settle.ended (settle.clauses 𝓤 H A at-mem run) (to-settle k r (va r)) v₃ (λ p. p ≡ settledOf (k .«known_call») (k .«known_state») (r .answer) (r .draws)) (λ r ws. id⊢ 𝓤 _) (λ p is₃ e₃. drop ! $
+              returned ! tt settle.ended (settle.clauses 𝓤 H A at-mem run) (to-settle k r (va r)) v₃ (λ p. p ≡ settledOf (k .«known_call») (k .«known_state») (plainAnswer (r .answer)) (r .draws)) (λ r ws. id⊢ 𝓤 _) (λ p is₃ e₃. drop ! $
               land ! (from ! (stop !)) (init ! 11 refl (typed-settled p _ is₃)) $
               rewrite ! 11 (λ (z : Val). ‵ (fat fullShare τp l₆ 0 z)) (spelt-settled p _ is₃) refl $
               assigns ! (of-opd ! (load ! (from ! (fld ! refl (stop !))) (look-in ! 11 (sub ! 0 refl (whole !))))) (from ! (stop !)) (init ! 7 refl (tt, tt)) $

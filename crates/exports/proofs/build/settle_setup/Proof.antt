@@ -18,7 +18,7 @@ settle-built-requires c κs = search needs
 
 returns : tie.Need-returns
 unfolding settledSetup
-returns c = rw (← c .before .before .before .before .known-setup .ensures, c .before .before .before .if1 .taken, c .settle-built .ensures, c .before .build .ensures, c .before .before .open-setup .ensures)
+returns c = rw (← c .before .before .before .before .known-setup .ensures, c .before .before .before .if1 .taken, c .settle-built .ensures, c .before .build .ensures .0, c .before .before .open-setup .ensures)
 
 bare-answer-requires : tie.Need-bare-answer-requires
 bare-answer-requires c κs = search needs

@@ -26,7 +26,7 @@ flat-look-requires c κs = search needs
 
 returns : tie.Need-returns
 unfolding lookAt
-returns c = rw (sym (c .before .before .before .before .before .known-state .ensures ∙ ap (knownWith _) (c .before .before .before .before .before .before .known-dims .ensures)) ∙ c .before .before .before .before .if1 .taken, c .flat-look .ensures, c .before .look .ensures, c .before .before .«open» .ensures, c .before .before .before .open-dims .ensures)
+returns c = rw (sym (c .before .before .before .before .before .known-state .ensures ∙ ap (knownWith _) (c .before .before .before .before .before .before .known-dims .ensures)) ∙ c .before .before .before .before .if1 .taken, c .flat-look .ensures, c .before .look .ensures .0, c .before .before .«open» .ensures, c .before .before .before .open-dims .ensures)
 
 returns-2 : tie.Need-returns-2
 unfolding lookAt
