@@ -66,7 +66,7 @@ pub fn make(seed: u64) -> Result<Fixed, String> {
     script.extend_from_slice(
         b"# From here on by hand: the refusals are those of document 01's table, the other answers the Rust's.\n",
     );
-    by_hand_is_so()?;
+    by_hand_is_so(BY_HAND)?;
     script.extend_from_slice(BY_HAND.as_bytes());
     let mut driver = Driver::default();
     let answers = expected(&mut driver, &script);
@@ -127,11 +127,17 @@ fn choose(pool: &mut [Entry]) {
     }
 }
 
-/// The judge's refusals are those that the part by hand names, and it gives no other.
-fn by_hand_is_so() -> Result<(), String> {
+/// The answers of a script that stands by itself, its refusals named by hand in its comments.
+pub fn answers(script: &str) -> Result<Vec<u8>, String> {
+    by_hand_is_so(script)?;
+    Ok(expected(&mut Driver::default(), script.as_bytes()))
+}
+
+/// The judge's refusals are those that the script names by hand, and it gives no other.
+fn by_hand_is_so(script: &str) -> Result<(), String> {
     let mut driver = Driver::default();
     let mut said: Option<&str> = None;
-    for line in BY_HAND.split_inclusive('\n') {
+    for line in script.split_inclusive('\n') {
         if let Some(words) = line.strip_prefix("# by hand: ") {
             said = words.split(": ").next();
             continue;
@@ -154,6 +160,6 @@ fn by_hand_is_so() -> Result<(), String> {
 mod tests {
     #[test]
     fn the_list_can_be_made() {
-        super::by_hand_is_so().unwrap();
+        super::by_hand_is_so(super::BY_HAND).unwrap();
     }
 }
