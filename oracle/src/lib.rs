@@ -64,6 +64,7 @@ pub mod script;
 mod served;
 mod shrink;
 pub mod text;
+pub mod workers;
 
 #[cfg(test)]
 mod tests;
