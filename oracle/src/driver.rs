@@ -124,6 +124,11 @@ impl Driver {
         self.campaign.as_ref().map(|c| c.sampler.probe().word())
     }
 
+    /// The sampler's private state, where there is a sampler.
+    pub fn probe(&self) -> Option<Probe<'_>> {
+        self.campaign.as_ref().map(|c| c.sampler.probe())
+    }
+
     fn forget(&mut self) {
         self.history.clear();
         self.nans = 0;

@@ -54,6 +54,7 @@ pub mod sampler {
 
 mod closing;
 pub mod compare;
+pub mod counted;
 pub mod counts;
 mod draws;
 pub mod driver;

@@ -10,6 +10,8 @@ use crate::judge;
 use crate::param::ParamValue;
 use crate::rng_util::f64_range;
 use crate::sampler::common::{from_internal, internal_bounds, sample_random, to_internal};
+use crate::sampler::de::DESampler;
+use crate::sampler::{CompletedTrial, Sampler};
 use crate::script::{self, Command, SetUp};
 
 fn answers(script: &str) -> String {
@@ -201,6 +203,28 @@ fn the_65th_extra_and_the_17th_dimension() {
         .collect();
     assert_eq!(refused, [17, 86]);
     assert!(answers.contains("refused 9\n") && answers.ends_with("refused 10\n"));
+}
+
+/// The Rust has no refusal 10: while one of the first N trials is missing it hands out random candidates for ever.
+#[test]
+fn the_rust_waits_for_ever_for_a_trial_that_never_reports() {
+    let sampler = DESampler::builder().population_size(4).seed(7).build();
+    let depth = int(1, 64, None);
+    let mut history = Vec::new();
+    for trial in 0..2_000 {
+        sampler.sample(&depth, trial, &history);
+        if trial != 4 {
+            history.push(CompletedTrial { id: trial, value: 1.0 });
+        }
+    }
+    assert_eq!(sampler.probe().trials().len(), 1_999);
+    assert!(sampler.probe().values().is_empty());
+    history.push(CompletedTrial {
+        id: 4,
+        value: f64::INFINITY,
+    });
+    sampler.sample(&depth, 2_000, &history);
+    assert_eq!(sampler.probe().values(), [1.0, 1.0, 1.0, f64::INFINITY]);
 }
 
 /// The generator's ledger and the Rust agree on what is accepted and on what closes.
