@@ -4,3 +4,4 @@ pub mod Flat
 pub mod Trials
 pub mod Draws
 pub mod Ceiling
+pub mod Paper

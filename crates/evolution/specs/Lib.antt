@@ -4,3 +4,4 @@ pub mod Cross
 pub mod Trial
 pub mod Flat
 pub mod Records
+pub mod Paper

@@ -2,3 +2,4 @@ pub mod Stays
 pub mod Slots
 pub mod Running
 pub mod Best
+pub mod Paper
