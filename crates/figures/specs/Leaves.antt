@@ -3,7 +3,7 @@ use Prim.Native.Nat.{ℕ, _-_, _+_, _^_}
 use mathlib.Core.Path.{_≡_}
 use mathlib.Core.Bool.{true, false}
 use mathlib.Core.List.{List, [], _∷_, map}
-use mathlib.Core.Option.{some}
+use mathlib.Core.Option.{none, some}
 use lib.IntN.{pos, negsuc}
 use lib.Ieee.{Float, fin, binary64, round}
 use Rattle.rng_util.specs.Draws.{unitOf, usizeOf, rangeOf}
@@ -16,6 +16,8 @@ use Rattle.distribution.specs.declared.ParamValue.the-variants as P
 use Rattle.common.specs.FromInternal.{fromInternal}
 use Rattle.history.specs.History.{lastValue}
 use Rattle.history.specs.declared.CompletedTrial.{CompletedTrial}
+use Rattle.ledger.specs.Closing.{scan}
+use Rattle.kernel.specs.De.{de}
 
 -- a decimal literal, n / 10 ^ k or its negative: the double that is nearest to it
 unfoldable pub dec : ℕ → ℕ → Float
@@ -65,5 +67,6 @@ unfoldable pub twice : List CompletedTrial
 unfolding dec
 twice = record { number = 7; value = dec 5 0 } ∷ record { number = 7; value = dec 2 0 } ∷ []
 
+-- as the code's history says it, and as demand 2's definition reads it
 abbrev pub History : Type 0
-History = lastValue 7 twice ≡ some (dec 2 0)
+History = (lastValue 7 twice ≡ some (dec 2 0)) × (scan de twice 7 none ≡ some (dec 2 0))
