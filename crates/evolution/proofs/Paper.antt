@@ -1,4 +1,4 @@
--- Steps 3 and 4 against the paper (specs/Paper): Rand1 is its mutation; crossover is its crossover but where the drawn unit is CR itself, and is clamped after it.
+-- Steps 3 and 4 against the paper (specs/Paper): Rand1 is its mutation. Crossover is its crossover, clamped, but where the drawn unit is CR itself.
 use Prim.Native.Nat.{ℕ, _+_, _*_}
 use native.Mathlib.Omega.{arith}
 use mathlib.Core.Path.{_≡_, refl, sym, ap, subst}

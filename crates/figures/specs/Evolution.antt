@@ -1,5 +1,5 @@
--- The starred bench figures of mutation, selection, best slot and size (document 01, "Bench figures"), for any other entries and candidates. Where the code's contracts and
--- demand 2's definition (the ledger's, over the kernel `de`) have a definition each, the figure is given for both.
+-- The starred bench figures of mutation, selection, best slot and size (document 01, "Bench figures"), for any other entries and candidates.
+-- Where the code's contracts and demand 2's definition (the ledger's, over the kernel `de`) have a definition each, the figure is given for both.
 use Prim.Native.Nat.{ℕ}
 use mathlib.Core.Path.{_≡_}
 use mathlib.Core.Bool.{false}
@@ -36,10 +36,11 @@ Stays =
     → (survivorOf (survivorOf (survivorOf (holds a (dec 5 0)) b (dec 3 0)) c (dec 4 0)) d (dec 3 0) ≡ holds d (dec 3 0))
     × (survivorOf (holds a (dec 3 0)) b (dec 35 1) ≡ holds a (dec 3 0))
 
--- the same in demand 2's definition: one slot that holds c with the result v; and one slot after a closing with c and v, by the count of generations closed before
+-- the same in demand 2's definition: one slot that holds c with the result v
 abbrev pub slot : Candidate → Float → List (Parent Candidate)
 slot c v = record { candidate = c; value = v } ∷ []
 
+-- and one slot after a closing with c and v, by the count of generations closed before
 abbrev pub closing : ℕ → List (Parent Candidate) → Candidate → Float → List (Parent Candidate)
 closing k ps c v = newParents de k ps (c ∷ []) (v ∷ [])
 

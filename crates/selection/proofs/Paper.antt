@@ -18,6 +18,7 @@ replaces-as-papers p c r e = ap (λ (z : Bool). cond z (record { candidate = c; 
     go false same q = q
 
 -- at a tie the trial replaces its parent, and the paper keeps it
-pub replaces-at-a-tie : (p : Member) (c : Candidate) (r : Float) → eq r (p .value) ≡ true → (survivorOf p c r ≡ record { candidate = c; value = r }) × (paperSurvivor p c r ≡ p)
+pub replaces-at-a-tie : (p : Member) (c : Candidate) (r : Float) → eq r (p .value) ≡ true
+    → (survivorOf p c r ≡ record { candidate = c; value = r }) × (paperSurvivor p c r ≡ p)
 unfolding survivorOf paperSurvivor le
 replaces-at-a-tie p c r e = rw (equal-not-below r (p .value) e, e) (refl, refl)
