@@ -1,2 +1,1 @@
-pub mod Hearing
 pub mod Obeying

@@ -1,21 +1,17 @@
 // Runs a campaign script: reads it from standard input, and writes a line for each line that asks something.
 // A program has no exit status of its own here: a malformed script shows in the last line, and a read or a write that
 // failed on standard error.
-mod reader;
-mod rows;
 mod session;
-mod sink;
-mod told;
 mod whole;
 
-use crate::reader::Cursor;
 use crate::session::Run;
 use crate::session::Step;
 use crate::session::obey;
-use crate::sink::Sink;
-use crate::told::Heard;
 use de::build::DESamplerBuilder;
 use libc::STDERR_FILENO;
+use lines::reader::Cursor;
+use lines::told::Heard;
+use rows::sink::Sink;
 use state::State;
 
 // A run that no further line is read for.
@@ -52,7 +48,7 @@ fn answer<'a>(
 
 // Writes what waits at the run's end.
 fn finish(out: &[u8; 8192], sink: Sink) {
-    let s = sink::flush(out, sink);
+    let s = rows::sink::flush(out, sink);
     if !s.ok {
         io::write_all(
             STDERR_FILENO,
@@ -109,7 +105,7 @@ fn main() {
     let mut run = begin();
     let mut turns = u64::MAX;
     while turns > 0 {
-        let asked = told::next_asked(
+        let asked = lines::told::next_asked(
             &mut input,
             &mut line,
             &mut numbers,

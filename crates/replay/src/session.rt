@@ -4,23 +4,26 @@ ghost use mathlib.Core.Path.{_≡_};
 ghost use Rattle.de.specs.Sample.{sampleOf};
 ghost use Rattle.history.specs.declared.CompletedTrial.{CompletedTrial};
 ghost use Rattle.script.specs.declared.command.Command.the-variants.{New, Sample};
-ghost use Rattle.replay.specs.History.{historyIn};
+ghost use Rattle.lines.specs.History.{historyIn};
 ghost use Rattle.replay.specs.Session.{Ended, Answered, Obeyed};
-use crate::reader::Cursor;
-use crate::rows::answer_row;
-use crate::rows::look_row;
-use crate::rows::malformed_row;
-use crate::rows::refused_row;
-use crate::sink::Sink;
-use crate::sink::put;
-use crate::told::first_numbers;
-use crate::told::first_values;
 use crate::whole::state_rows;
+use de::Answer;
 use de::Sampled;
 use de::build::Built;
 use de::build::DESamplerBuilder;
+use de::look::LookAnswer;
+use de::look::Looked;
 use distribution::Distribution;
 use evolution::Setup;
+use lines::reader::Cursor;
+use lines::told::first_numbers;
+use lines::told::first_values;
+use rows::best_row;
+use rows::malformed_row;
+use rows::refused_row;
+use rows::setting_row;
+use rows::sink::Sink;
+use rows::sink::put;
 use script::Command;
 use state::State;
 
@@ -103,6 +106,14 @@ fn sample_first<'a>(
     )
 }
 
+// A sample call's answer.
+fn answer_row(out: &mut [u8; 8192], sink: Sink, answer: Answer, draws: u64) -> Sink {
+    match answer {
+        Answer::Setting(setting) => setting_row(out, sink, setting, draws),
+        Answer::Refused(refusal) => refused_row(out, sink, refusal),
+    }
+}
+
 // A sample line, where there is a state.
 fn sample<'a>(
     out: &mut [u8; 8192],
@@ -131,6 +142,25 @@ fn sample<'a>(
     Step {
         state,
         run: malformed(out, run),
+    }
+}
+
+// A look call's answer.
+fn look_row(out: &mut [u8; 8192], sink: Sink, looked: Looked) -> Sink {
+    let look = looked.look;
+    let values = looked.values;
+    match look {
+        LookAnswer::Refused(refusal) => refused_row(out, sink, refusal),
+        LookAnswer::Nothing => put(out, sink, b"look -\n"),
+        LookAnswer::Best(best) => best_row(
+            out,
+            sink,
+            best,
+            looked.closed,
+            looked.idle,
+            values,
+            looked.n,
+        ),
     }
 }
 

@@ -1,0 +1,53 @@
+-- `next_asked` ends: the turns fall.
+use borrow.Author.Needs.{needs}
+use Rattle.lines.proofs.told.next_asked.Statement.{statement}
+use Rattle.lines.proofs.told.next_asked.Tie as tie
+
+abbrev Inv-loop : tie.InvT-loop
+Inv-loop input₀ line₀ numbers₀ values₀ count c₀ n₀ turns₀ input line numbers values c n turns = Unit {0}
+
+abbrev μ-loop : tie.MeasureT-loop
+μ-loop input₀ line₀ numbers₀ values₀ count c₀ n₀ turns₀ input line numbers values c n turns = turns
+
+loop-holds : tie.Need-loop-holds Inv-loop μ-loop
+loop-holds c = tt
+
+next-line-requires : tie.Need-next-line-requires Inv-loop μ-loop
+next-line-requires c κs = search needs
+
+hear-fetched-requires : tie.Need-hear-fetched-requires Inv-loop μ-loop
+hear-fetched-requires c κs = search needs
+
+enum-known-heard : tie.Need-enum-known-heard Inv-loop μ-loop
+enum-known-heard c = search needs
+
+returns : tie.Need-returns Inv-loop μ-loop
+returns c = tt
+
+sub-turns : tie.Need-sub-turns Inv-loop μ-loop
+sub-turns c = search needs
+
+loop-less : tie.Need-loop-less Inv-loop μ-loop
+loop-less c = search needs
+
+loop-again : tie.Need-loop-again Inv-loop μ-loop
+loop-again c = tt
+
+returns-2 : tie.Need-returns-2 Inv-loop μ-loop
+returns-2 c = tt
+
+pub next-asked-spec : {M : Type 1} → statement M
+next-asked-spec =
+    tie.close
+    (tie.spec
+    Inv-loop
+    μ-loop
+    loop-holds
+    next-line-requires
+    hear-fetched-requires
+    enum-known-heard
+    returns
+    sub-turns
+    loop-less
+    loop-again
+    returns-2)
