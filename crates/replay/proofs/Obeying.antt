@@ -5,19 +5,17 @@ use mathlib.Core.List.{List, [], _∷_}
 use mathlib.Core.Path.{_≡_, refl, sym, ap, _∙_, subst}
 use types.Run.{OneOf, miss}
 use denote.Enum.Declared.{tagOf}
-use Rattle.de.specs.Build.{builtOf, freshState}
+use Rattle.de.specs.Build.{builtOf}
 use Rattle.de.specs.Sample.{sampleOf}
 use Rattle.de.specs.declared.build.Built.{Built}
-use Rattle.de.specs.declared.build.Built.the-variants.{Accepted, Refused}
 use Rattle.distribution.specs.declared.Distribution.{Distribution}
-use Rattle.distribution.specs.declared.Refusal.{Refusal}
 use Rattle.evolution.specs.declared.Setup.{Setup}
 use Rattle.history.specs.declared.CompletedTrial.{CompletedTrial}
 use Rattle.script.specs.declared.command.Command.{Command}
 use Rattle.script.specs.declared.command.Command.the-variants.{Skip, Malformed, New, Clear, Tell, Sample, Look, State as Show}
 use Rattle.script.proofs.command.Command as C
 use Rattle.state.specs.declared.State.{State}
-use Rattle.replay.specs.Session.{startedBy, isAccepted, stateAfter, Ended, Answered, Obeyed}
+use Rattle.replay.specs.Session.{startedBy, isAccepted, stateAfter, Begun, Ended, Answered, Obeyed}
 use Rattle.replay.specs.declared.session.Run.{Run}
 use Rattle.replay.specs.declared.session.Step.{Step}
 
@@ -58,22 +56,13 @@ module _ (a : Run) (s : State) (h : List CompletedTrial) where
 
   -- ---- new
 
-  pub accepted-new : (S S' : Setup) (r : Step) → builtOf (record { setup = S }) ≡ Accepted S' → r .state ≡ freshState S' → r .run .accepted ≡ true → r .run .count ≡ 0 → r .run .stopped ≡ a .stopped → Obeyed a s h (New S) r
-  accepted-new S S' r e v p q t =
+  pub set-up : (S : Setup) (b : Built) (r : Step) → b ≡ builtOf (record { setup = S }) → r .state ≡ startedBy b s → Begun a b (r .run) → Obeyed a s h (New S) r
+  set-up S b r e v z =
       record {
-        state = v ∙ ap (λ (b : Built). startedBy b s) (sym e);
-        accepted = p ∙ ap isAccepted (sym e);
-        count = q;
-        stopped = t;
-      }
-
-  pub refused-new : (S : Setup) (k : Refusal) (r : Step) → builtOf (record { setup = S }) ≡ Refused k → r .state ≡ s → r .run .accepted ≡ false → r .run .count ≡ 0 → r .run .stopped ≡ a .stopped → Obeyed a s h (New S) r
-  refused-new S k r e v p q t =
-      record {
-        state = v ∙ ap (λ (b : Built). startedBy b s) (sym e);
-        accepted = p ∙ ap isAccepted (sym e);
-        count = q;
-        stopped = t;
+        state = v ∙ ap (λ (k : Built). startedBy k s) e;
+        accepted = z .accepted ∙ ap isAccepted e;
+        count = z .count;
+        stopped = z .stopped;
       }
 
   pub same-line : (line k : Command) (r : Step) → line ≡ k → Obeyed a s h k r → Obeyed a s h line r

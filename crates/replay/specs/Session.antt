@@ -74,6 +74,12 @@ breaks accepted (Tell number x) = true
 
 -- ---- what is kept beside the state
 
+-- a set-up was tried
+pub record Begun (a : Run) (built : Built) (r : Run) : Type 0 where
+  pub accepted : r .accepted ≡ isAccepted built
+  pub count : r .count ≡ 0
+  pub stopped : r .stopped ≡ a .stopped
+
 -- the run ends
 pub record Ended (a r : Run) : Type 0 where
   pub accepted : r .accepted ≡ a .accepted

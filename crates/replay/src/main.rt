@@ -14,8 +14,11 @@ use lines::told::Heard;
 use rows::sink::Sink;
 use state::State;
 
-// A run that no further line is read for.
-fn stop(run: Run) -> Run {
+// A run that no further line is read for: the script has ended, or a read failed.
+fn stop(run: Run, heard: Heard) -> Run {
+    if let Heard::Failed = heard {
+        io::write_all(STDERR_FILENO, b"replay: standard input cannot be read\n");
+    }
     let mut r = run;
     r.stopped = true;
     r
@@ -32,16 +35,9 @@ fn answer<'a>(
 ) -> Step {
     match heard {
         Heard::Ask(command) => obey(out, run, state, command, numbers, values),
-        Heard::Failed => {
-            io::write_all(STDERR_FILENO, b"replay: standard input cannot be read\n");
-            Step {
-                state,
-                run: stop(run),
-            }
-        }
         _ => Step {
             state,
-            run: stop(run),
+            run: stop(run, heard),
         },
     }
 }

@@ -5,7 +5,7 @@ ghost use Rattle.de.specs.Sample.{sampleOf};
 ghost use Rattle.history.specs.declared.CompletedTrial.{CompletedTrial};
 ghost use Rattle.script.specs.declared.command.Command.the-variants.{New, Sample};
 ghost use Rattle.lines.specs.History.{historyIn};
-ghost use Rattle.replay.specs.Session.{Ended, Answered, Obeyed};
+ghost use Rattle.replay.specs.Session.{startedBy, Begun, Ended, Answered, Obeyed};
 use crate::whole::state_rows;
 use de::Answer;
 use de::Sampled;
@@ -57,32 +57,47 @@ fn malformed(out: &mut [u8; 8192], run: Run) -> Run
     r
 }
 
+// The state after a set-up.
+fn started(built: Built, state: State) -> State
+    ensures { λ r. ⌜ r ≡ startedBy built state ⌝ }
+{
+    match built {
+        Built::Accepted(setup) => de::build::new_state(setup),
+        Built::Refused(_) => state,
+    }
+}
+
 // A set-up empties the history, a refused one too.
-fn new(out: &mut [u8; 8192], run: Run, state: State, setup: Setup) -> Step
-    ensures { λ r. ⌜ ((h : List CompletedTrial) → Obeyed run state h (New setup) r) ⌝ }
+fn begun(out: &mut [u8; 8192], run: Run, built: Built) -> Run
+    ensures { λ r. ⌜ Begun run built r ⌝ }
 {
     let mut r = run;
     r.count = 0;
     let sink = r.sink;
-    let builder = DESamplerBuilder { setup };
-    let built = builder.build();
     match built {
-        Built::Accepted(checked) => {
+        Built::Accepted(_) => {
             let s = put(out, sink, b"new\n");
             r.sink = s;
             r.accepted = true;
-            let fresh = de::build::new_state(checked);
-            Step {
-                state: fresh,
-                run: r,
-            }
         }
         Built::Refused(refusal) => {
             let s = refused_row(out, sink, refusal);
             r.sink = s;
             r.accepted = false;
-            Step { state, run: r }
         }
+    }
+    r
+}
+
+// A set-up.
+fn new(out: &mut [u8; 8192], run: Run, state: State, setup: Setup) -> Step
+    ensures { λ r. ⌜ ((h : List CompletedTrial) → Obeyed run state h (New setup) r) ⌝ }
+{
+    let builder = DESamplerBuilder { setup };
+    let built = builder.build();
+    Step {
+        state: started(built, state),
+        run: begun(out, run, built),
     }
 }
 
