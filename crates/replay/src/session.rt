@@ -1,6 +1,7 @@
 // What a line does that asks something: the sampler's call, and the answer's row.
 ghost use mathlib.Core.List.{List};
 ghost use mathlib.Core.Path.{_≡_};
+ghost use Rattle.de.specs.Answer.{numbered};
 ghost use Rattle.de.specs.Sample.{sampleOf};
 ghost use Rattle.history.specs.declared.CompletedTrial.{CompletedTrial};
 ghost use Rattle.script.specs.declared.command.Command.the-variants.{New, Sample};
@@ -110,7 +111,7 @@ fn sample_first<'a>(
     values: &'a [f64],
     n: usize,
 ) -> Sampled
-    ensures { λ r. ⌜ r ≡ sampleOf state distribution number (historyIn (now (numbers .entry)) (now (values .entry)) n) ⌝ }
+    ensures { λ r. ⌜ numbered r ≡ sampleOf state distribution number (historyIn (now (numbers .entry)) (now (values .entry)) n) ⌝ }
 {
     de::sample::sample_slices(
         state,

@@ -1,6 +1,8 @@
 -- `sample` meets its contract: the state is that of the sample call, and only the sink changes beside it; or the run ends.
 use mathlib.Core.Path.{refl, ap}
-use Rattle.de.specs.declared.Sampled.{Sampled}
+use Rattle.ledger.specs.State.{Result}
+use Rattle.kernel.specs.De.{de}
+use Rattle.state.specs.declared.State.{State}
 use Rattle.replay.proofs.Obeying.{sampled-on, sampled-off}
 use borrow.Author.Needs.{needs}
 use Rattle.replay.proofs.session.sample.Statement.{statement}
@@ -15,7 +17,7 @@ answer-row-requires c κs = search needs
 returns : tie.Need-returns
 returns c =
     let a = c .before .before .before .before .before .before .before .before .args in
-    sampled-on (a .run) (a .state) _ (a .number) (a .distribution) _ (c .before .before .before .before .before .before .before .if1 .taken) (ap (λ (s : Sampled). s .state) (c .before .before .before .before .sample-first .ensures)) refl refl refl
+    sampled-on (a .run) (a .state) _ (a .number) (a .distribution) _ (c .before .before .before .before .before .before .before .if1 .taken) (ap (λ (s : Result de State). s .state) (c .before .before .before .before .sample-first .ensures)) refl refl refl
 
 malformed-requires : tie.Need-malformed-requires
 malformed-requires c κs = search needs
