@@ -1,4 +1,4 @@
-/* The differential evolution sampler for C callers. Link with libexports.a (`make lib` builds it).
+/* The differential evolution sampler for C callers. Link with libemkhurtov.a (lib/x86_64-linux, or by pkg-config).
  *
  * The functions de_new, de_sample, de_look and de_to_internal are the proved code itself (crates/exports); what each
  * promises stands beside it and is proved there for every memory content and every argument. They take references, so a
@@ -17,6 +17,14 @@
 #ifdef __cplusplus
 extern "C" {
 #endif
+
+#define DE_VERSION "0.2.0"
+#define DE_VERSION_MAJOR 0
+#define DE_VERSION_MINOR 2
+#define DE_VERSION_PATCH 0
+
+/* The version of the library that is linked: DE_VERSION, where it is this header's. */
+const char *de_version(void);
 
 enum {
     DE_MAX_DIMENSIONS = 16,

@@ -1,4 +1,4 @@
-/* The tests that C callers need before the proved functions: layouts, null pointers, short and misaligned memory. */
+/* The library's part in C: the tests that C callers need before the proved functions: layouts, null pointers, short and misaligned memory. */
 #include <emkhurtov.h>
 
 /* On x86-64, the only machine that the library is built for, these follow from the header; a compiler that lays out
@@ -10,6 +10,10 @@ _Static_assert(offsetof(DeState, parents) == 37208 && offsetof(DeState, n_trials
 _Static_assert(offsetof(DeState, idle) == 67700 && sizeof(DeState) == 67704, "layout");
 _Static_assert(sizeof(DeCall) == 88 && sizeof(DeAnswer) == 48 && sizeof(DeLook) == 1328, "layout");
 _Static_assert(sizeof(DeSetting) == 32 && sizeof(DeInternal) == 24, "layout");
+
+const char *de_version(void) {
+    return DE_VERSION;
+}
 
 /* Each of these says whether a field holds the next number, in the order of declaration. */
 typedef struct {

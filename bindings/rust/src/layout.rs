@@ -24,7 +24,7 @@ pub fn check() {
     let agree = *AGREE.get_or_init(|| agrees(&de_marks()));
     assert!(
         agree,
-        "the linked libexports.a lays its structs out otherwise than this crate: build both from one tree"
+        "the linked libemkhurtov.a lays its structs out otherwise than this crate: build both from one tree"
     );
 }
 
