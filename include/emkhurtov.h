@@ -1,13 +1,14 @@
 /* The differential evolution sampler for C callers. Link with libemkhurtov.a (lib/x86_64-linux, or by pkg-config).
  *
- * The functions de_new, de_sample, de_look and de_to_internal are the proved code itself (crates/exports); what each
- * promises stands beside it and is proved there for every memory content and every argument. They take references, so a
- * pointer that they are given must be valid. The functions de_checked_* below test what a pointer's callers get wrong
- * (null, too short, misaligned) and then call them.
+ * The functions de_new, de_sample, de_look, de_slot_setting and de_to_internal are the proved code itself
+ * (crates/exports); what each promises stands beside it and is proved there for every memory content and every
+ * argument. They take references, so a pointer that they are given must be valid. The functions de_checked_* below test
+ * what a pointer's callers get wrong (null, too short, misaligned) and then call them.
  *
  * Numbers stand for cases; a number that names no case is answered, never guessed at. Nothing here allocates, locks, or
- * keeps anything between calls: a state is all there is, the caller owns it, and two states never touch each other. A
- * call needs about 1 MB of stack. */
+ * keeps anything between calls: a state is all there is, the caller owns it, and two states never touch each other.
+ *
+ * A call needs 1 MB of stack (820 KB were measured): a thread's stack is set to that or more. */
 #ifndef EMKHURTOV_H
 #define EMKHURTOV_H
 
@@ -28,10 +29,18 @@ const char *de_version(void);
 
 enum {
     DE_MAX_DIMENSIONS = 16,
+    DE_MIN_POPULATION = 4, /* a smaller size is raised to it */
     DE_MAX_POPULATION = 160,
     DE_MAX_EXTRA = 64,
-    DE_MAX_TRIALS = 224 /* DE_MAX_POPULATION + DE_MAX_EXTRA */
+    DE_MAX_TRIALS = 224, /* DE_MAX_POPULATION + DE_MAX_EXTRA */
+    DE_MAX_CHOICES = 65535
 };
+#define DE_MAX_REAL 1e300                      /* the largest Float bound */
+#define DE_MAX_WHOLE INT64_C(9007199254740992) /* 2^53, the largest Int bound and step */
+#define DE_MAX_STEPS INT64_C(4294967295)       /* the most steps of a Float distribution */
+
+/* `sized`, `stepped`, `log_scale`, `named` and `discovered` are one of these. */
+enum { DE_NO = 0, DE_YES = 1 };
 
 /* What an answer is. The kinds from 16 on are given by the checked functions alone. */
 enum {
@@ -39,8 +48,9 @@ enum {
     DE_FLOAT = 1,   /* the setting is `real` */
     DE_INT = 2,     /* the setting is `whole` */
     DE_CHOICE = 3,  /* the setting is `choice`, counted from 0 */
-    DE_UNKNOWN = 4, /* a number in the set-up, distribution or setting names no case */
+    DE_UNKNOWN = 4, /* a number in the set-up, distribution or setting names no case; this comes before every refusal */
     DE_MADE = 5,    /* the state is set up */
+    DE_NOTHING = 6, /* there is no such slot or dimension yet */
     DE_NULL_POINTER = 16,
     DE_SHORT_BUFFER = 17, /* the memory is smaller than DeState */
     DE_MISALIGNED = 18,
@@ -54,32 +64,42 @@ enum {
     DE_LOOK_BEST = 2
 };
 
+/* The kinds of a DeInternal, beside DE_REFUSED and DE_UNKNOWN. */
+enum { DE_INTERNAL_VALUE = 1 };
+
 /* Why a call was refused. */
 enum {
     DE_STATE_NOT_SOUND = 0, /* no state that a sampler can have: memory that was not set up, or was changed */
     DE_MUTATION_FACTOR = 1, /* F is not in 0 to 2 */
     DE_CROSSOVER_RATE = 2,  /* CR is not in 0 to 1 */
-    DE_POPULATION_SIZE = 3, /* over 160 */
-    DE_BOUNDS = 4,          /* not finite, low over high, or past 1e300 (Float) or 2^53 (Int) */
+    DE_POPULATION_SIZE = 3, /* over DE_MAX_POPULATION */
+    DE_BOUNDS = 4,          /* not finite, low over high, or past DE_MAX_REAL (Float) or DE_MAX_WHOLE (Int) */
     DE_LOG_SCALE = 5,       /* no log scale is offered */
-    DE_STEP = 6,            /* not finite, not above 0, past 2^53 (Int), or too many steps (Float) */
-    DE_CHOICES = 7,         /* no choice, or over 65535 */
+    DE_STEP = 6,            /* not finite, not above 0, past DE_MAX_WHOLE (Int), or over DE_MAX_STEPS steps (Float) */
+    DE_CHOICES = 7,         /* no choice, or over DE_MAX_CHOICES */
     DE_HISTORY_NAN = 8,     /* a value of the history is NaN */
     DE_DIMENSIONS = 9,      /* a 17th dimension */
     DE_EXTRA_TRIALS = 10,   /* a 65th trial beyond the population in one generation */
     DE_ENTRY_NAN = 11       /* a new candidate would have an entry that is NaN */
 };
 
+/* What a refusal says, in a sentence without its number; of a number that is no refusal, that it is none. */
+const char *de_refusal_text(uint64_t refusal);
+
 enum { DE_RAND1 = 0, DE_BEST1 = 1, DE_CURRENT_TO_BEST1 = 2 };
 
 typedef struct DeSetup {
-    double mutation_factor; /* F, 0 to 2; the Rust's default is 0.8 */
-    double crossover_rate;  /* CR, 0 to 1; the Rust's default is 0.9 */
+    double mutation_factor; /* F, 0 to 2 */
+    double crossover_rate;  /* CR, 0 to 1 */
     uint64_t strategy;      /* DE_RAND1, DE_BEST1 or DE_CURRENT_TO_BEST1 */
-    uint64_t sized;         /* 1: population_size is given; 0: it follows from the dimensions */
+    uint64_t sized;         /* DE_YES: population_size is given; DE_NO: it follows from the dimensions */
     uint64_t population_size;
     uint64_t seed; /* nothing is seeded at random */
 } DeSetup;
+
+/* The Rust's defaults, and seed 0. To be started from: a zeroed set-up is accepted too, and has F = 0 and CR = 0. */
+#define DE_SETUP_DEFAULT                                                                                               \
+    { 0.8, 0.9, DE_RAND1, DE_NO, 0, 0 }
 
 /* Fields that the kind has no use for are not read. */
 typedef struct DeDistribution {
@@ -87,8 +107,8 @@ typedef struct DeDistribution {
     double low, high;  /* Float */
     int64_t whole_low; /* Int */
     int64_t whole_high;
-    uint64_t log_scale; /* 0 or 1 */
-    uint64_t stepped;   /* 1: the step is given; 0: there is none */
+    uint64_t log_scale; /* DE_NO; DE_YES is refused */
+    uint64_t stepped;   /* DE_YES: the step is given; DE_NO: there is none */
     double step;        /* Float */
     int64_t whole_step; /* Int */
     uint64_t n_choices; /* choice */
@@ -110,13 +130,15 @@ typedef struct DeTrialProgress {
 } DeTrialProgress;
 
 /* The sampler's state, whole: it may be copied, kept and put back as bytes. To be read, not written: a state that was
- * changed is used if it is one that a sampler can have, and refused by DE_STATE_NOT_SOUND otherwise. */
+ * changed is used if it is one that a sampler can have, and refused by DE_STATE_NOT_SOUND otherwise. A field that a
+ * kind or flag has no use for may hold any number (`named` DE_NO with `first` 77 is sound); the next setting zeroes it.
+ */
 typedef struct DeState {
     DeSetup setup;
-    uint64_t named; /* 1: `first` is the first trial's number */
+    uint64_t named; /* DE_YES: `first` is the first trial's number */
     uint64_t first;
-    uint64_t discovered; /* 1: all dimensions are known */
-    uint64_t n;
+    uint64_t discovered; /* DE_YES: all dimensions are known */
+    uint64_t n;          /* N, the number of slots, from then on */
     uint64_t n_dims;
     DeDistribution dims[DE_MAX_DIMENSIONS];
     DeCandidate candidates[DE_MAX_TRIALS];
@@ -168,7 +190,7 @@ typedef struct DeSetting {
 } DeSetting;
 
 typedef struct DeInternal {
-    uint64_t kind; /* DE_REFUSED, 1 for a value, or DE_UNKNOWN */
+    uint64_t kind; /* DE_REFUSED, DE_INTERNAL_VALUE or DE_UNKNOWN */
     uint64_t refusal;
     double value;
 } DeInternal;
@@ -179,19 +201,37 @@ DeAnswer de_new(DeState *state, DeSetup setup);
 
 /* The next setting of a trial, the dimensions in the order in which the first trial asked for them. A setting of the
  * lent distribution's kind or of the dimension's own, with the draws counted, and *state is the state after the call;
- * or DE_REFUSED by the first refusal that applies; or DE_UNKNOWN. Where there is no setting, draws is 0 and *state is
- * as it was, bit for bit. The history is read and not kept; of two entries with one number the last counts. */
+ * or DE_UNKNOWN; or DE_REFUSED by the first refusal that applies. Where there is no setting, draws is 0 and *state is
+ * as it was, bit for bit. The history is read and not kept; of two entries with one number the last counts.
+ *
+ * The rule for callers; docs/FINDINGS.md has what comes of breaking it. The first trial asks for all its dimensions
+ * before any other trial calls. A trial asks for all its dimensions in one go, with the same history lent to each call.
+ * No trial number is used again, and every trial is told.
+ *
+ * - After the first trial the lent distribution does not decide the answer. It is judged (DE_BOUNDS to DE_CHOICES), and
+ *   the setting is decoded by the one that the first trial lent. Past the last dimension it is drawn from the lent one.
+ * - A generation closes in the call that finds the results of its first N trials in the lent history. So a caller that
+ *   runs one trial at a time may lend the last N results alone.
+ * - A generation waits for a trial that is not told: the trials after it are extras, which do not compete, and the 65th
+ *   is refused by DE_EXTRA_TRIALS. Telling the missing trial frees it; one that was killed is told as +infinity. */
 DeAnswer de_sample(DeState *state, DeCall call, const DeCompletedTrial *history, size_t count);
 
 /* The best slot and every slot's value; nothing before the first generation has closed; or DE_STATE_NOT_SOUND. */
 DeLook de_look(const DeState *state);
 
+/* The setting that a slot holds in a dimension, both counted from 0, decoded as de_sample decodes; for the best one,
+ * ask for the slot `best` of a look. DE_NOTHING where there is no such slot or dimension yet, and before the first
+ * generation has closed there is none; or DE_REFUSED by DE_STATE_NOT_SOUND. Nothing is drawn. */
+DeAnswer de_slot_setting(const DeState *state, uint64_t slot, uint64_t dimension);
+
 /* The double that a setting stands for; refusals 4 to 7 of the distribution, and DE_BOUNDS for an Int setting past
  * 2^53; 0.0 where the kinds differ. */
 DeInternal de_to_internal(DeDistribution distribution, DeSetting setting);
 
-/* One of each struct, as the library lays it out: every field, and of an array its first and last place, has its own
- * number, counted from 1 in the order of declaration; other places are 0. */
+/* One of each struct, as the library lays it out. In each struct the fields that are numbers hold 1, 2, .. in the order
+ * of declaration, and an array of numbers holds two of these, in its first and last place. A field that is a struct
+ * holds that struct's own marks, an array of structs holds them in its first and last place; neither takes a number.
+ * All other places are 0. */
 typedef struct DeMarks {
     DeSetup setup;
     uint64_t after_setup;
@@ -225,6 +265,7 @@ DeAnswer de_checked_sample(void *memory, size_t size, const DeCall *call, const 
                            size_t count);
 /* Here `kind` may also be one of the kinds from 16 on. */
 DeLook de_checked_look(const void *memory, size_t size);
+DeAnswer de_checked_slot_setting(const void *memory, size_t size, uint64_t slot, uint64_t dimension);
 
 #ifdef __cplusplus
 }

@@ -1,4 +1,5 @@
-/* The library's part in C: the tests that C callers need before the proved functions: layouts, null pointers, short and misaligned memory. */
+/* The library's part in C: what C callers need before the proved functions (layouts, null pointers, short and
+ * misaligned memory are tested), the version, and the refusals' texts. */
 #include <emkhurtov.h>
 
 /* On x86-64, the only machine that the library is built for, these follow from the header; a compiler that lays out
@@ -15,136 +16,82 @@ const char *de_version(void) {
     return DE_VERSION;
 }
 
-/* Each of these says whether a field holds the next number, in the order of declaration. */
-typedef struct {
-    uint64_t next;
-    int agree;
-} Count;
-
-static void number(Count *c, uint64_t found) {
-    c->agree = c->agree && found == c->next;
-    c->next++;
+const char *de_refusal_text(uint64_t refusal) {
+    static const char *const texts[] = {
+        [DE_STATE_NOT_SOUND] = "the state is none that a sampler can have",
+        [DE_MUTATION_FACTOR] = "the mutation factor is not between 0 and 2",
+        [DE_CROSSOVER_RATE] = "the crossover rate is not between 0 and 1",
+        [DE_POPULATION_SIZE] = "the population size is over 160",
+        [DE_BOUNDS] = "a bound is not finite or over its limit, or low is above high",
+        [DE_LOG_SCALE] = "log scale is not offered",
+        [DE_STEP] = "the step is not finite, not above 0, or gives too many steps",
+        [DE_CHOICES] = "there are no choices, or more than 65,535",
+        [DE_HISTORY_NAN] = "a value of the history is NaN",
+        [DE_DIMENSIONS] = "the first trial asks for a 17th dimension",
+        [DE_EXTRA_TRIALS] = "a 65th trial beyond the population asks in one generation",
+        [DE_ENTRY_NAN] = "a new candidate would have an entry that is NaN",
+    };
+    return refusal < sizeof texts / sizeof *texts ? texts[refusal] : "no refusal has this number";
 }
 
-static void real(Count *c, double found) {
-    c->agree = c->agree && found == (double)c->next;
-    c->next++;
+/* Each of these says whether the fields of a struct hold the marks that the header says. */
+static int marked_setup(const DeSetup *s) {
+    return s->mutation_factor == 1.0 && s->crossover_rate == 2.0 && s->strategy == 3 && s->sized == 4 &&
+           s->population_size == 5 && s->seed == 6;
 }
 
-static void setup_counts(Count *c, const DeSetup *s) {
-    real(c, s->mutation_factor);
-    real(c, s->crossover_rate);
-    number(c, s->strategy);
-    number(c, s->sized);
-    number(c, s->population_size);
-    number(c, s->seed);
+static int marked_distribution(const DeDistribution *d) {
+    return d->kind == 1 && d->low == 2.0 && d->high == 3.0 && d->whole_low == 4 && d->whole_high == 5 &&
+           d->log_scale == 6 && d->stepped == 7 && d->step == 8.0 && d->whole_step == 9 && d->n_choices == 10;
 }
 
-static void distribution_counts(Count *c, const DeDistribution *d) {
-    number(c, d->kind);
-    real(c, d->low);
-    real(c, d->high);
-    number(c, (uint64_t)d->whole_low);
-    number(c, (uint64_t)d->whole_high);
-    number(c, d->log_scale);
-    number(c, d->stepped);
-    real(c, d->step);
-    number(c, (uint64_t)d->whole_step);
-    number(c, d->n_choices);
+static int marked_candidate(const DeCandidate *c) {
+    return c->x[0] == 1.0 && c->x[DE_MAX_DIMENSIONS - 1] == 2.0 && c->choices[0] == 3 &&
+           c->choices[DE_MAX_DIMENSIONS - 1] == 4;
 }
 
-static void candidate_counts(Count *c, const DeCandidate *candidate) {
-    real(c, candidate->x[0]);
-    real(c, candidate->x[DE_MAX_DIMENSIONS - 1]);
-    number(c, candidate->choices[0]);
-    number(c, candidate->choices[DE_MAX_DIMENSIONS - 1]);
+static int marked_member(const DeMember *m) {
+    return marked_candidate(&m->candidate) && m->value == 1.0;
 }
 
-static void member_counts(Count *c, const DeMember *m) {
-    candidate_counts(c, &m->candidate);
-    real(c, m->value);
+static int marked_progress(const DeTrialProgress *t) {
+    return t->number == 1 && t->next_dim == 2;
 }
 
-static void trial_counts(Count *c, const DeTrialProgress *t) {
-    number(c, t->number);
-    number(c, t->next_dim);
+static int marked_state(const DeState *s) {
+    return marked_setup(&s->setup) && s->named == 1 && s->first == 2 && s->discovered == 3 && s->n == 4 &&
+           s->n_dims == 5 && marked_distribution(&s->dims[0]) && marked_distribution(&s->dims[DE_MAX_DIMENSIONS - 1]) &&
+           marked_candidate(&s->candidates[0]) && marked_candidate(&s->candidates[DE_MAX_TRIALS - 1]) &&
+           marked_member(&s->parents[0]) && marked_member(&s->parents[DE_MAX_POPULATION - 1]) && s->n_trials == 6 &&
+           marked_progress(&s->trials[0]) && marked_progress(&s->trials[DE_MAX_TRIALS - 1]) && s->best == 7 &&
+           s->word == 8 && s->closed == 9 && s->idle == 10;
 }
 
-static void state_counts(Count *c, const DeState *s) {
-    setup_counts(c, &s->setup);
-    number(c, s->named);
-    number(c, s->first);
-    number(c, s->discovered);
-    number(c, s->n);
-    number(c, s->n_dims);
-    distribution_counts(c, &s->dims[0]);
-    distribution_counts(c, &s->dims[DE_MAX_DIMENSIONS - 1]);
-    real(c, s->candidates[0].x[0]);
-    real(c, s->candidates[0].x[DE_MAX_DIMENSIONS - 1]);
-    for (int i = 0; i < DE_MAX_DIMENSIONS; i++) {
-        number(c, s->candidates[0].choices[i]);
-    }
-    candidate_counts(c, &s->candidates[DE_MAX_TRIALS - 1]);
-    member_counts(c, &s->parents[0]);
-    member_counts(c, &s->parents[DE_MAX_POPULATION - 1]);
-    number(c, s->n_trials);
-    trial_counts(c, &s->trials[0]);
-    trial_counts(c, &s->trials[DE_MAX_TRIALS - 1]);
-    number(c, s->best);
-    number(c, s->word);
-    number(c, s->closed);
-    number(c, s->idle);
+static int marked_answer(const DeAnswer *a) {
+    return a->kind == 1 && a->refusal == 2 && a->real == 3.0 && a->whole == 4 && a->choice == 5 && a->draws == 6;
 }
 
-static void look_counts(Count *c, const DeLook *l) {
-    number(c, l->kind);
-    number(c, l->refusal);
-    number(c, l->best);
-    number(c, l->n);
-    number(c, l->closed);
-    number(c, l->idle);
-    real(c, l->values[0]);
-    real(c, l->values[DE_MAX_POPULATION - 1]);
+static int marked_look(const DeLook *l) {
+    return l->kind == 1 && l->refusal == 2 && l->best == 3 && l->n == 4 && l->closed == 5 && l->idle == 6 &&
+           l->values[0] == 7.0 && l->values[DE_MAX_POPULATION - 1] == 8.0;
 }
 
-static void answer_counts(Count *c, const DeAnswer *a) {
-    number(c, a->kind);
-    number(c, a->refusal);
-    real(c, a->real);
-    number(c, (uint64_t)a->whole);
-    number(c, a->choice);
-    number(c, a->draws);
+static int marked_setting(const DeSetting *s) {
+    return s->kind == 1 && s->real == 2.0 && s->whole == 3 && s->choice == 4;
+}
+
+static int marked_internal(const DeInternal *i) {
+    return i->kind == 1 && i->refusal == 2 && i->value == 3.0;
 }
 
 int de_layout_agrees(void) {
     DeMarks m = de_marks();
-    Count c = {1, 1};
-    setup_counts(&c, &m.setup);
-    number(&c, m.after_setup);
-    distribution_counts(&c, &m.distribution);
-    number(&c, m.after_distribution);
-    number(&c, m.call.trial);
-    distribution_counts(&c, &m.call.distribution);
-    number(&c, m.after_call);
-    answer_counts(&c, &m.answer);
-    number(&c, m.after_answer);
-    look_counts(&c, &m.look);
-    number(&c, m.after_look);
-    number(&c, m.setting.kind);
-    real(&c, m.setting.real);
-    number(&c, (uint64_t)m.setting.whole);
-    number(&c, m.setting.choice);
-    number(&c, m.after_setting);
-    number(&c, m.internal.kind);
-    number(&c, m.internal.refusal);
-    real(&c, m.internal.value);
-    number(&c, m.after_internal);
-    number(&c, m.trial.number);
-    real(&c, m.trial.value);
-    number(&c, m.after_trial);
-    state_counts(&c, &m.state);
-    number(&c, m.after_state);
-    return c.agree;
+    return marked_setup(&m.setup) && m.after_setup == 1 && marked_distribution(&m.distribution) &&
+           m.after_distribution == 2 && m.call.trial == 1 && marked_distribution(&m.call.distribution) &&
+           m.after_call == 3 && marked_answer(&m.answer) && m.after_answer == 4 && marked_look(&m.look) &&
+           m.after_look == 5 && marked_setting(&m.setting) && m.after_setting == 6 && marked_internal(&m.internal) &&
+           m.after_internal == 7 && m.trial.number == 1 && m.trial.value == 2.0 && m.after_trial == 8 &&
+           marked_state(&m.state) && m.after_state == 9;
 }
 
 /* 0 where the memory can hold a state, else the kind of answer that says why not. */
@@ -188,4 +135,10 @@ DeLook de_checked_look(const void *memory, size_t size) {
     DeLook look = {0};
     look.kind = unfit(memory, size);
     return look.kind != 0 ? look : de_look(memory);
+}
+
+DeAnswer de_checked_slot_setting(const void *memory, size_t size, uint64_t slot, uint64_t dimension) {
+    DeAnswer answer = {0};
+    answer.kind = unfit(memory, size);
+    return answer.kind != 0 ? answer : de_slot_setting(memory, slot, dimension);
 }

@@ -34,11 +34,28 @@ static double measure(Settings s) {
 
 static void stop(const char *what, DeAnswer answer) {
     if (answer.kind == DE_REFUSED) {
-        fprintf(stderr, "gateway: %s: refusal %llu\n", what, (unsigned long long)answer.refusal);
+        fprintf(stderr, "gateway: %s: refusal %llu: %s\n", what, (unsigned long long)answer.refusal,
+                de_refusal_text(answer.refusal));
     } else {
         fprintf(stderr, "gateway: %s: answer of kind %llu\n", what, (unsigned long long)answer.kind);
     }
     exit(1);
+}
+
+static void take(Settings *s, int dimension, DeAnswer answer) {
+    switch (answer.kind) {
+    case DE_FLOAT:
+        s->quota = answer.real;
+        break;
+    case DE_INT:
+        *(dimension == 1 ? &s->flush : &s->depth) = answer.whole;
+        break;
+    case DE_CHOICE:
+        s->scheduler = answer.choice;
+        break;
+    default:
+        stop("a setting", answer);
+    }
 }
 
 /* One trial's settings: its dimensions in order. */
@@ -46,20 +63,16 @@ static Settings ask(DeState *state, uint64_t trial, const DeCompletedTrial *hist
     Settings s = {0};
     for (int i = 0; i < DIMENSIONS; i++) {
         DeCall call = {.trial = trial, .distribution = dimensions[i]};
-        DeAnswer answer = de_checked_sample(state, sizeof *state, &call, history, (size_t)trial);
-        switch (answer.kind) {
-        case DE_FLOAT:
-            s.quota = answer.real;
-            break;
-        case DE_INT:
-            *(i == 1 ? &s.flush : &s.depth) = answer.whole;
-            break;
-        case DE_CHOICE:
-            s.scheduler = answer.choice;
-            break;
-        default:
-            stop("sample", answer);
-        }
+        take(&s, i, de_checked_sample(state, sizeof *state, &call, history, (size_t)trial));
+    }
+    return s;
+}
+
+/* What a slot holds. */
+static Settings held(const DeState *state, uint64_t slot) {
+    Settings s = {0};
+    for (int i = 0; i < DIMENSIONS; i++) {
+        take(&s, i, de_checked_slot_setting(state, sizeof *state, slot, (uint64_t)i));
     }
     return s;
 }
@@ -75,7 +88,6 @@ static DeLook look_at(const DeState *state) {
 int main(void) {
     static DeState state;
     static DeCompletedTrial history[TRIALS];
-    static Settings tried[TRIALS];
     DeSetup setup = {.mutation_factor = 0.7,
                      .crossover_rate = 0.9,
                      .strategy = DE_RAND1,
@@ -99,16 +111,10 @@ int main(void) {
                (unsigned long long)generation, s.quota, (long long)s.flush, (long long)s.depth, schedulers[s.scheduler],
                value, least ? " *" : "");
         history[trial] = (DeCompletedTrial){trial, value};
-        tried[trial] = s;
     }
     DeLook look = look_at(&state);
     double best = look.values[look.best];
-    /* The latest trial that measured the kept value; the last trial's generation is still open. */
-    int kept = TRIALS - 2;
-    while (kept > 0 && history[kept].value != best) {
-        kept--;
-    }
-    Settings s = tried[kept];
+    Settings s = held(&state, look.best);
     printf("\nbest: %.3f ms with quota %.1f MB/s, flush every %lld ms, depth %lld, %s (slot %llu)\n", best, s.quota,
            (long long)s.flush, (long long)s.depth, schedulers[s.scheduler], (unsigned long long)look.best);
     printf("generations closed: %llu; since one last replaced a slot: %llu\n", (unsigned long long)look.closed,
