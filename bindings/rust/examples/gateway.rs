@@ -32,6 +32,21 @@ struct Settings {
     scheduler: u64,
 }
 
+impl Settings {
+    /// A setting for each dimension, in their order.
+    fn of(settings: &[ParamValue]) -> Option<Settings> {
+        let [quota, flush, depth, scheduler] = *settings else {
+            return None;
+        };
+        Some(Settings {
+            quota: quota.as_f64()?,
+            flush: flush.as_i64()?,
+            depth: depth.as_i64()?,
+            scheduler: scheduler.as_choice()?,
+        })
+    }
+}
+
 /// The stand-in: how long the line controller waits for a write (99th percentile, ms). A small quota starves the
 /// container, whose backlog then bursts; a large one takes the disk from its neighbours; the depth that suits depends on
 /// the scheduler. Sums, products and quotients only, so that every machine gives the same bits.
@@ -86,7 +101,8 @@ impl Run {
         );
     }
 
-    fn looked(&mut self, look: &Look, kept: Settings) {
+    fn looked(&mut self, look: &Look) {
+        let kept = Settings::of(&look.settings).expect("a slot has a setting for each dimension");
         let _ = writeln!(self.script, "look");
         let _ = write!(self.answers, "look {} {} {}", look.best, look.closed, look.idle);
         for value in &look.values {
@@ -113,23 +129,13 @@ impl Run {
 
 /// One trial's settings.
 fn ask(sampler: &mut Sampler, trial: u64, history: &[CompletedTrial], run: &mut Run) -> Result<Settings, Refusal> {
-    let mut s = Settings {
-        quota: 0.0,
-        flush: 0,
-        depth: 0,
-        scheduler: 0,
-    };
-    for (place, (distribution, words)) in dimensions().iter().enumerate() {
+    let mut settings = Vec::new();
+    for (distribution, words) in &dimensions() {
         let sampled = sampler.sample(distribution, trial, history)?;
         run.sampled(trial, words, sampled);
-        match sampled.setting {
-            ParamValue::Float(x) => s.quota = x,
-            ParamValue::Int(k) if place == 1 => s.flush = k,
-            ParamValue::Int(k) => s.depth = k,
-            ParamValue::Categorical(c) => s.scheduler = c,
-        }
+        settings.push(sampled.setting);
     }
-    Ok(s)
+    Ok(Settings::of(&settings).expect("each dimension was asked for, and answers are of its kind"))
 }
 
 fn campaign() -> Result<Run, Refusal> {
@@ -154,7 +160,6 @@ fn campaign() -> Result<Run, Refusal> {
     let _ = writeln!(run.answers, "new");
     let _ = writeln!(run.table, "trial   gen    quota  flush  depth  scheduler      p99 ms");
     let mut history = Vec::new();
-    let mut tried = Vec::new();
     let mut least = f64::INFINITY;
     for trial in 0..TRIALS {
         let settings = ask(&mut sampler, trial, &history, &mut run)?;
@@ -162,15 +167,10 @@ fn campaign() -> Result<Run, Refusal> {
         let value = measure(settings);
         run.told(trial, generation, settings, value, value < least);
         least = least.min(value);
-        history.push(CompletedTrial { number: trial, value });
-        tried.push(settings);
+        history.push(CompletedTrial::new(trial, value));
     }
     let look = sampler.look()?.expect("twelve generations have closed");
-    // The latest trial that measured the kept value: a tie keeps the later one. The last trial's generation is still open.
-    let kept = (0..history.len() - 1)
-        .rev()
-        .find(|&i| history[i].value == look.best_value());
-    run.looked(&look, tried[kept.expect("a slot's value was measured")]);
+    run.looked(&look);
     Ok(run)
 }
 

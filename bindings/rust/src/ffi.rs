@@ -1,5 +1,7 @@
 //! The library's own functions and structs (include/emkhurtov.h has what each promises). Numbers stand for cases.
 
+use std::ffi::c_char;
+
 use crate::CompletedTrial;
 
 pub const MAX_DIMENSIONS: usize = 16;
@@ -11,6 +13,7 @@ pub const FLOAT: u64 = 1;
 pub const INT: u64 = 2;
 pub const CHOICE: u64 = 3;
 pub const MADE: u64 = 5;
+pub const NOTHING: u64 = 6;
 
 pub const LOOK_REFUSED: u64 = 0;
 pub const LOOK_NOTHING: u64 = 1;
@@ -132,7 +135,7 @@ pub struct DeInternal {
     pub value: f64,
 }
 
-/// One of each struct, each field with its own number (layout.rs).
+/// One of each struct, its fields numbered (layout.rs).
 #[repr(C)]
 pub struct DeMarks {
     pub setup: DeSetup,
@@ -160,6 +163,11 @@ unsafe extern "C" {
     pub fn de_sample(state: *mut DeState, call: DeCall, history: *const CompletedTrial, count: usize) -> DeAnswer;
     pub fn de_new(state: *mut DeState, setup: DeSetup) -> DeAnswer;
     pub fn de_look(state: *const DeState) -> DeLook;
+    pub fn de_slot_setting(state: *const DeState, slot: u64, dimension: u64) -> DeAnswer;
     pub safe fn de_to_internal(distribution: DeDistribution, setting: DeSetting) -> DeInternal;
     pub safe fn de_marks() -> DeMarks;
+    // Both are texts that end in a zero and stay.
+    pub safe fn de_version() -> *const c_char;
+    #[cfg(test)]
+    pub safe fn de_refusal_text(refusal: u64) -> *const c_char;
 }

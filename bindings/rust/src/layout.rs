@@ -21,7 +21,7 @@ const _: () = {
 /// Panics where the layouts differ. The comparison is made once.
 pub fn check() {
     static AGREE: OnceLock<bool> = OnceLock::new();
-    let agree = *AGREE.get_or_init(|| agrees(&de_marks()));
+    let agree = *AGREE.get_or_init(|| de_marks().marked());
     assert!(
         agree,
         "the linked libemkhurtov.a lays its structs out otherwise than this crate: build both from one tree"
@@ -34,109 +34,115 @@ pub fn blank_state() -> Box<DeState> {
     Box::new(unsafe { std::mem::zeroed() })
 }
 
-/// Says whether each field holds the next number, in the order of declaration.
-struct Count {
-    next: u64,
-    agree: bool,
+/// A struct whose fields hold the marks that include/emkhurtov.h says (`DeMarks`), as this crate reads it.
+trait Marked {
+    fn marked(&self) -> bool;
 }
 
-impl Count {
-    fn number(&mut self, found: u64) {
-        self.agree = self.agree && found == self.next;
-        self.next += 1;
-    }
-
-    fn numbers<const N: usize>(&mut self, found: [u64; N]) {
-        found.into_iter().for_each(|n| self.number(n));
-    }
-
-    fn real(&mut self, found: f64) {
-        self.agree = self.agree && found == self.next as f64;
-        self.next += 1;
-    }
-
-    fn setup(&mut self, s: &DeSetup) {
-        self.real(s.mutation_factor);
-        self.real(s.crossover_rate);
-        self.numbers([s.strategy, s.sized, s.population_size, s.seed]);
-    }
-
-    fn distribution(&mut self, d: &DeDistribution) {
-        self.number(d.kind);
-        self.real(d.low);
-        self.real(d.high);
-        self.numbers([d.whole_low as u64, d.whole_high as u64, d.log_scale, d.stepped]);
-        self.real(d.step);
-        self.numbers([d.whole_step as u64, d.n_choices]);
-    }
-
-    fn candidate(&mut self, c: &DeCandidate) {
-        self.real(c.x[0]);
-        self.real(c.x[MAX_DIMENSIONS - 1]);
-        self.numbers([c.choices[0].into(), c.choices[MAX_DIMENSIONS - 1].into()]);
-    }
-
-    fn member(&mut self, m: &DeMember) {
-        self.candidate(&m.candidate);
-        self.real(m.value);
-    }
-
-    fn answer(&mut self, a: &DeAnswer) {
-        self.numbers([a.kind, a.refusal]);
-        self.real(a.real);
-        self.numbers([a.whole as u64, a.choice, a.draws]);
-    }
-
-    fn look(&mut self, l: &DeLook) {
-        self.numbers([l.kind, l.refusal, l.best, l.n, l.closed, l.idle]);
-        self.real(l.values[0]);
-        self.real(l.values[MAX_POPULATION - 1]);
-    }
-
-    fn state(&mut self, s: &DeState) {
-        self.setup(&s.setup);
-        self.numbers([s.named, s.first, s.discovered, s.n, s.n_dims]);
-        self.distribution(&s.dims[0]);
-        self.distribution(&s.dims[MAX_DIMENSIONS - 1]);
-        self.real(s.candidates[0].x[0]);
-        self.real(s.candidates[0].x[MAX_DIMENSIONS - 1]);
-        self.numbers(s.candidates[0].choices.map(u64::from));
-        self.candidate(&s.candidates[MAX_TRIALS - 1]);
-        self.member(&s.parents[0]);
-        self.member(&s.parents[MAX_POPULATION - 1]);
-        let (first, last) = (s.trials[0], s.trials[MAX_TRIALS - 1]);
-        self.numbers([s.n_trials, first.number, first.next_dim, last.number, last.next_dim]);
-        self.numbers([s.best, s.word, s.closed.into(), s.idle.into()]);
+impl Marked for DeSetup {
+    fn marked(&self) -> bool {
+        (self.mutation_factor, self.crossover_rate) == (1.0, 2.0)
+            && [self.strategy, self.sized, self.population_size, self.seed] == [3, 4, 5, 6]
     }
 }
 
-fn agrees(m: &DeMarks) -> bool {
-    let mut c = Count { next: 1, agree: true };
-    c.setup(&m.setup);
-    c.number(m.after_setup);
-    c.distribution(&m.distribution);
-    c.numbers([m.after_distribution, m.call.trial]);
-    c.distribution(&m.call.distribution);
-    c.number(m.after_call);
-    c.answer(&m.answer);
-    c.number(m.after_answer);
-    c.look(&m.look);
-    c.numbers([m.after_look, m.setting.kind]);
-    c.real(m.setting.real);
-    c.numbers([
-        m.setting.whole as u64,
-        m.setting.choice,
-        m.after_setting,
-        m.internal.kind,
-        m.internal.refusal,
-    ]);
-    c.real(m.internal.value);
-    c.numbers([m.after_internal, m.trial.number]);
-    c.real(m.trial.value);
-    c.number(m.after_trial);
-    c.state(&m.state);
-    c.number(m.after_state);
-    c.agree
+impl Marked for DeDistribution {
+    fn marked(&self) -> bool {
+        self.kind == 1
+            && (self.low, self.high, self.step) == (2.0, 3.0, 8.0)
+            && [self.whole_low, self.whole_high, self.whole_step] == [4, 5, 9]
+            && [self.log_scale, self.stepped, self.n_choices] == [6, 7, 10]
+    }
+}
+
+impl Marked for DeCandidate {
+    fn marked(&self) -> bool {
+        (self.x[0], self.x[MAX_DIMENSIONS - 1]) == (1.0, 2.0)
+            && (self.choices[0], self.choices[MAX_DIMENSIONS - 1]) == (3, 4)
+    }
+}
+
+impl Marked for DeMember {
+    fn marked(&self) -> bool {
+        self.candidate.marked() && self.value == 1.0
+    }
+}
+
+impl Marked for DeTrialProgress {
+    fn marked(&self) -> bool {
+        [self.number, self.next_dim] == [1, 2]
+    }
+}
+
+impl Marked for DeCall {
+    fn marked(&self) -> bool {
+        self.trial == 1 && self.distribution.marked()
+    }
+}
+
+impl Marked for DeAnswer {
+    fn marked(&self) -> bool {
+        [self.kind, self.refusal, self.choice, self.draws] == [1, 2, 5, 6] && self.real == 3.0 && self.whole == 4
+    }
+}
+
+impl Marked for DeLook {
+    fn marked(&self) -> bool {
+        [self.kind, self.refusal, self.best, self.n, self.closed, self.idle] == [1, 2, 3, 4, 5, 6]
+            && (self.values[0], self.values[MAX_POPULATION - 1]) == (7.0, 8.0)
+    }
+}
+
+impl Marked for DeSetting {
+    fn marked(&self) -> bool {
+        (self.kind, self.real, self.whole, self.choice) == (1, 2.0, 3, 4)
+    }
+}
+
+impl Marked for DeInternal {
+    fn marked(&self) -> bool {
+        (self.kind, self.refusal, self.value) == (1, 2, 3.0)
+    }
+}
+
+impl Marked for CompletedTrial {
+    fn marked(&self) -> bool {
+        (self.number, self.value) == (1, 2.0)
+    }
+}
+
+/// An array of structs: its first and last place.
+impl<T: Marked, const N: usize> Marked for [T; N] {
+    fn marked(&self) -> bool {
+        self[0].marked() && self[N - 1].marked()
+    }
+}
+
+impl Marked for DeState {
+    fn marked(&self) -> bool {
+        self.setup.marked()
+            && [self.named, self.first, self.discovered, self.n, self.n_dims] == [1, 2, 3, 4, 5]
+            && self.dims.marked()
+            && self.candidates.marked()
+            && self.parents.marked()
+            && self.n_trials == 6
+            && self.trials.marked()
+            && [self.best, self.word, self.closed.into(), self.idle.into()] == [7, 8, 9, 10]
+    }
+}
+
+impl Marked for DeMarks {
+    fn marked(&self) -> bool {
+        (self.setup.marked() && self.after_setup == 1)
+            && (self.distribution.marked() && self.after_distribution == 2)
+            && (self.call.marked() && self.after_call == 3)
+            && (self.answer.marked() && self.after_answer == 4)
+            && (self.look.marked() && self.after_look == 5)
+            && (self.setting.marked() && self.after_setting == 6)
+            && (self.internal.marked() && self.after_internal == 7)
+            && (self.trial.marked() && self.after_trial == 8)
+            && (self.state.marked() && self.after_state == 9)
+    }
 }
 
 #[cfg(test)]
@@ -145,16 +151,16 @@ mod tests {
 
     #[test]
     fn the_library_is_laid_out_alike() {
-        assert!(agrees(&de_marks()));
+        assert!(de_marks().marked());
     }
 
     #[test]
     fn a_shifted_field_is_noticed() {
         let mut marks = de_marks();
         marks.state.idle += 1;
-        assert!(!agrees(&marks));
+        assert!(!marks.marked());
         let mut marks = de_marks();
         std::mem::swap(&mut marks.distribution.low, &mut marks.distribution.high);
-        assert!(!agrees(&marks));
+        assert!(!marks.marked());
     }
 }

@@ -4,6 +4,14 @@ use std::error::Error;
 use std::fmt;
 
 /// A refusal of the sampler. A refused call has no setting, draws nothing and leaves the sampler as it was.
+///
+/// ```
+/// use emkhurtov::{Refusal, Sampler};
+/// let refusal = Sampler::builder().crossover_rate(2.0).build().unwrap_err();
+/// assert_eq!(refusal, Refusal::CrossoverRate);
+/// assert_eq!(refusal.to_string(), "refusal 2: the crossover rate is not between 0 and 1");
+/// ```
+#[non_exhaustive]
 #[derive(Clone, Copy, Debug, PartialEq, Eq, Hash)]
 pub enum Refusal {
     /// 0: the state is none that a sampler can have.
@@ -86,13 +94,28 @@ impl Error for Refusal {}
 
 #[cfg(test)]
 mod tests {
+    use std::ffi::CStr;
+
     use super::*;
+    use crate::ffi::de_refusal_text;
 
     #[test]
     fn numbers_are_places() {
         for (place, refusal) in ALL.iter().enumerate() {
             assert_eq!(refusal.number(), place as u64);
             assert_eq!(Refusal::numbered(place as u64), *refusal);
+        }
+    }
+
+    #[test]
+    fn the_texts_are_those_of_c() {
+        for refusal in ALL {
+            // SAFETY: the text ends in a zero and stays.
+            let text = unsafe { CStr::from_ptr(de_refusal_text(refusal.number())) };
+            let ours = refusal.to_string();
+            let (number, why) = ours.split_once(": ").unwrap();
+            assert_eq!(number, format!("refusal {}", refusal.number()));
+            assert_eq!(Ok(why), text.to_str());
         }
     }
 }

@@ -1,29 +1,37 @@
 //! The sampler: a state in memory of its own, and the calls on it.
 
+use std::ffi::CStr;
 use std::fmt;
 
 use crate::ffi;
 use crate::layout;
-use crate::{CompletedTrial, DEStrategy, Distribution, ParamValue, Refusal};
+use crate::{CompletedTrial, Distribution, ParamValue, Refusal, SamplerBuilder};
 
-/// The differential evolution sampler. Cloning it clones the whole state, generator included: both go on alike.
+/// The differential evolution sampler. Cloning it clones the whole state, generator included: both go on alike. It may
+/// go to another thread, and be looked at from several.
 #[derive(Clone)]
 pub struct Sampler {
-    state: Box<ffi::DeState>,
+    pub(crate) state: Box<ffi::DeState>,
 }
 
 /// A setting, and how many numbers the generator gave for it.
+#[non_exhaustive]
 #[derive(Clone, Copy, Debug, PartialEq)]
 pub struct Sampled {
+    /// What the trial runs with, in this dimension.
     pub setting: ParamValue,
+    /// How many numbers the generator gave for it.
     pub draws: u64,
 }
 
 /// What the closed generations have made.
+#[non_exhaustive]
 #[derive(Clone, Debug, PartialEq)]
 pub struct Look {
     /// The best slot.
     pub best: usize,
+    /// What the best slot holds: a setting for each dimension, in their order.
+    pub settings: Vec<ParamValue>,
     /// Each slot's value.
     pub values: Vec<f64>,
     /// How many generations have closed.
@@ -34,96 +42,16 @@ pub struct Look {
 
 impl Look {
     /// The best slot's value.
+    ///
+    /// # Panics
+    /// Where `best` is no place of `values`: of no look that a sampler gave.
     pub fn best_value(&self) -> f64 {
         self.values[self.best]
     }
 }
 
-/// The set-up. The defaults are the original's: F = 0.8, CR = 0.9, Rand1, a size that follows from the dimensions; the
-/// seed is 0, since nothing is seeded at random.
-#[derive(Clone, Copy, Debug)]
-pub struct SamplerBuilder {
-    mutation_factor: f64,
-    crossover_rate: f64,
-    strategy: DEStrategy,
-    population_size: Option<u64>,
-    seed: u64,
-}
-
-impl Default for SamplerBuilder {
-    fn default() -> Self {
-        SamplerBuilder {
-            mutation_factor: 0.8,
-            crossover_rate: 0.9,
-            strategy: DEStrategy::Rand1,
-            population_size: None,
-            seed: 0,
-        }
-    }
-}
-
-impl SamplerBuilder {
-    /// The number of slots: raised to 4, refused over 160.
-    pub fn population_size(mut self, size: u64) -> Self {
-        self.population_size = Some(size);
-        self
-    }
-
-    /// F, 0 to 2.
-    pub fn mutation_factor(mut self, f: f64) -> Self {
-        self.mutation_factor = f;
-        self
-    }
-
-    /// CR, 0 to 1.
-    pub fn crossover_rate(mut self, cr: f64) -> Self {
-        self.crossover_rate = cr;
-        self
-    }
-
-    pub fn strategy(mut self, strategy: DEStrategy) -> Self {
-        self.strategy = strategy;
-        self
-    }
-
-    pub fn seed(mut self, seed: u64) -> Self {
-        self.seed = seed;
-        self
-    }
-
-    /// A fresh sampler, or refusal 1, 2 or 3.
-    ///
-    /// # Panics
-    /// Where the linked library lays its structs out otherwise than this crate.
-    ///
-    /// ```
-    /// use emkhurtov::{Refusal, Sampler};
-    /// assert!(Sampler::builder().population_size(160).build().is_ok());
-    /// assert_eq!(Sampler::builder().population_size(161).build().err(), Some(Refusal::PopulationSize));
-    /// assert_eq!(Sampler::builder().mutation_factor(f64::NAN).build().err(), Some(Refusal::MutationFactor));
-    /// ```
-    pub fn build(self) -> Result<Sampler, Refusal> {
-        layout::check();
-        let setup = ffi::DeSetup {
-            mutation_factor: self.mutation_factor,
-            crossover_rate: self.crossover_rate,
-            strategy: self.strategy.lent(),
-            sized: u64::from(self.population_size.is_some()),
-            population_size: self.population_size.unwrap_or(0),
-            seed: self.seed,
-        };
-        let mut state = layout::blank_state();
-        // SAFETY: the pointer is the box's, initialised, of the layout that was checked above.
-        let answer = unsafe { ffi::de_new(&mut *state, setup) };
-        match answer.kind {
-            ffi::MADE => Ok(Sampler { state }),
-            ffi::REFUSED => Err(Refusal::numbered(answer.refusal)),
-            kind => unreachable!("a set-up is made or refused, and this is kind {kind}"),
-        }
-    }
-}
-
 impl Sampler {
+    /// A set-up with the original's defaults.
     pub fn builder() -> SamplerBuilder {
         SamplerBuilder::default()
     }
@@ -131,7 +59,19 @@ impl Sampler {
     /// The next setting of a trial: its dimensions in the order in which the first trial asked for them.
     ///
     /// A refusal leaves the sampler as it was. The history is read and not kept; of two entries with one number the
-    /// last counts. A generation closes in the call that finds every slot's trial in the history.
+    /// last counts.
+    ///
+    /// The rule for callers; docs/FINDINGS.md has what comes of breaking it. The first trial asks for all its dimensions
+    /// before any other trial calls. A trial asks for all its dimensions in one go, with the same history lent to each
+    /// call. No trial number is used again, and every trial is told.
+    ///
+    /// - After the first trial the lent distribution does not decide the answer. It is judged (refusals 4 to 7), and the
+    ///   setting is decoded by the one that the first trial lent. Past the last dimension it is drawn from the lent one.
+    /// - A generation closes in the call that finds the results of its first N trials in the lent history. So a caller
+    ///   that runs one trial at a time may lend the last N results alone.
+    /// - A generation waits for a trial that is not told: the trials after it are extras, which do not compete, and the
+    ///   65th is refused by [`Refusal::ExtraTrials`]. Telling the missing trial frees it; one that was killed is told as
+    ///   [`f64::INFINITY`].
     ///
     /// ```
     /// use emkhurtov::{CompletedTrial, Distribution, ParamValue, Refusal, Sampler};
@@ -139,7 +79,7 @@ impl Sampler {
     /// let depth = Distribution::int(1, 64);
     /// let first = sampler.sample(&depth, 0, &[])?;
     /// assert!(matches!(first.setting, ParamValue::Int(1..=64)));
-    /// let nan = [CompletedTrial { number: 0, value: f64::NAN }];
+    /// let nan = [CompletedTrial::new(0, f64::NAN)];
     /// assert_eq!(sampler.sample(&depth, 1, &nan), Err(Refusal::HistoryNan));
     /// # Ok::<(), Refusal>(())
     /// ```
@@ -155,17 +95,14 @@ impl Sampler {
         };
         // SAFETY: both pointers come from references, and a slice's pointer is not null, an empty one's either.
         let answer = unsafe { ffi::de_sample(&mut *self.state, call, history.as_ptr(), history.len()) };
-        let setting = match answer.kind {
-            ffi::FLOAT => ParamValue::Float(answer.real),
-            ffi::INT => ParamValue::Int(answer.whole),
-            ffi::CHOICE => ParamValue::Categorical(answer.choice),
-            ffi::REFUSED => return Err(Refusal::numbered(answer.refusal)),
-            kind => unreachable!("a call is answered or refused, and this is kind {kind}"),
-        };
-        Ok(Sampled {
-            setting,
-            draws: answer.draws,
-        })
+        match setting_of(&answer) {
+            Some(setting) => Ok(Sampled {
+                setting,
+                draws: answer.draws,
+            }),
+            None if answer.kind == ffi::REFUSED => Err(Refusal::numbered(answer.refusal)),
+            None => unreachable!("a call is answered or refused, and this is kind {}", answer.kind),
+        }
     }
 
     /// What the closed generations have made; `None` before the first closing.
@@ -182,6 +119,7 @@ impl Sampler {
         match look.kind {
             ffi::LOOK_BEST => Ok(Some(Look {
                 best: look.best as usize,
+                settings: self.slot_settings(look.best as usize)?.unwrap_or_default(),
                 values: look.values[..look.n as usize].to_vec(),
                 closed: look.closed,
                 idle: look.idle,
@@ -192,9 +130,54 @@ impl Sampler {
         }
     }
 
-    /// The state as it lies in memory, for tests and tools that compare states.
-    pub fn state(&self) -> &ffi::DeState {
-        &self.state
+    /// What a slot holds: a setting for each dimension, in their order, decoded as [`Sampler::sample`] decodes. `None`
+    /// where there is no such slot, and before the first closing there is none.
+    ///
+    /// ```
+    /// use emkhurtov::{CompletedTrial, Distribution, Refusal, Sampler};
+    /// let mut sampler = Sampler::builder().population_size(4).build()?;
+    /// let depth = Distribution::int(1, 64);
+    /// let mut history = Vec::new();
+    /// let mut tried = Vec::new();
+    /// for trial in 0..6 {
+    ///     tried.push(sampler.sample(&depth, trial, &history)?.setting);
+    ///     history.push(CompletedTrial::new(trial, 1.0));
+    /// }
+    /// // The first generation's trials were 1 to 4, one for each slot.
+    /// assert_eq!(sampler.slot_settings(2)?, Some(vec![tried[3]]));
+    /// assert_eq!(sampler.slot_settings(4)?, None);
+    /// # Ok::<(), Refusal>(())
+    /// ```
+    pub fn slot_settings(&self, slot: usize) -> Result<Option<Vec<ParamValue>>, Refusal> {
+        let mut settings = Vec::new();
+        for dimension in 0..ffi::MAX_DIMENSIONS as u64 {
+            // SAFETY: the pointer comes from a reference.
+            let answer = unsafe { ffi::de_slot_setting(&*self.state, slot as u64, dimension) };
+            match setting_of(&answer) {
+                Some(setting) => settings.push(setting),
+                None if answer.kind == ffi::NOTHING => break,
+                None if answer.kind == ffi::REFUSED => return Err(Refusal::numbered(answer.refusal)),
+                None => unreachable!("a slot has a setting or none, and this is kind {}", answer.kind),
+            }
+        }
+        Ok((!settings.is_empty()).then_some(settings))
+    }
+
+    /// The state as it lies in memory, to be compared with another's: the same bytes go on alike.
+    pub fn state_bytes(&self) -> &[u8] {
+        let state: *const ffi::DeState = &*self.state;
+        // SAFETY: the state is made of numbers without padding (layout.rs: its size is the sum of its fields').
+        unsafe { std::slice::from_raw_parts(state.cast::<u8>(), size_of::<ffi::DeState>()) }
+    }
+}
+
+/// The setting, where the answer has one.
+fn setting_of(answer: &ffi::DeAnswer) -> Option<ParamValue> {
+    match answer.kind {
+        ffi::FLOAT => Some(ParamValue::Float(answer.real)),
+        ffi::INT => Some(ParamValue::Int(answer.whole)),
+        ffi::CHOICE => Some(ParamValue::Categorical(answer.choice)),
+        _ => None,
     }
 }
 
@@ -213,6 +196,9 @@ impl fmt::Debug for Sampler {
 
 /// The double that a setting stands for in the search space; 0 where the kinds differ.
 ///
+/// # Panics
+/// Where the linked library lays its structs out otherwise than this crate.
+///
 /// ```
 /// use emkhurtov::{Distribution, ParamValue, Refusal, to_internal};
 /// assert_eq!(to_internal(&Distribution::int(1, 64), ParamValue::Int(8)), Ok(8.0));
@@ -226,4 +212,14 @@ pub fn to_internal(distribution: &Distribution, setting: ParamValue) -> Result<f
         ffi::REFUSED => Err(Refusal::numbered(internal.refusal)),
         kind => unreachable!("a setting has a double or is refused, and this is kind {kind}"),
     }
+}
+
+/// The version of the library that is linked; this crate's own, where both are of one tree.
+///
+/// # Panics
+/// Where the linked library's version is no text.
+pub fn version() -> &'static str {
+    // SAFETY: the text ends in a zero and stays.
+    let text = unsafe { CStr::from_ptr(ffi::de_version()) };
+    text.to_str().expect("a version is digits and points")
 }

@@ -5,47 +5,60 @@ use crate::ffi;
 /// A Float distribution: `low..=high`, perhaps in steps from `low`.
 #[derive(Clone, Copy, Debug, PartialEq)]
 pub struct FloatDistribution {
+    /// The least setting.
     pub low: f64,
+    /// The largest.
     pub high: f64,
     /// Refused where true; it is here since the original has it.
     pub log_scale: bool,
+    /// The step, counted from `low`, where there is one.
     pub step: Option<f64>,
 }
 
 /// An Int distribution: `low..=high`, perhaps in steps from `low`.
 #[derive(Clone, Copy, Debug, PartialEq, Eq)]
 pub struct IntDistribution {
+    /// The least setting.
     pub low: i64,
+    /// The largest.
     pub high: i64,
     /// Refused where true; it is here since the original has it.
     pub log_scale: bool,
+    /// The step, counted from `low`, where there is one.
     pub step: Option<i64>,
 }
 
 /// A choice among `n_choices`.
 #[derive(Clone, Copy, Debug, PartialEq, Eq)]
 pub struct CategoricalDistribution {
+    /// How many choices there are, 1 to 65,535.
     pub n_choices: u64,
 }
 
 /// What a dimension ranges over.
 #[derive(Clone, Copy, Debug, PartialEq)]
 pub enum Distribution {
+    /// Doubles.
     Float(FloatDistribution),
+    /// Whole numbers.
     Int(IntDistribution),
+    /// Choices.
     Categorical(CategoricalDistribution),
 }
 
 /// A setting.
 #[derive(Clone, Copy, Debug, PartialEq)]
 pub enum ParamValue {
+    /// A double.
     Float(f64),
+    /// A whole number.
     Int(i64),
     /// A choice, counted from 0.
     Categorical(u64),
 }
 
 /// How a mutant is made.
+#[non_exhaustive]
 #[derive(Clone, Copy, Debug, Default, PartialEq, Eq)]
 pub enum DEStrategy {
     /// x1 + F (x2 - x3), of Storn and Price.
@@ -57,12 +70,21 @@ pub enum DEStrategy {
     CurrentToBest1,
 }
 
-/// An entry of the history: a finished trial and what was measured. Less is better.
+/// An entry of the history: a finished trial and what was measured.
 #[repr(C)]
 #[derive(Clone, Copy, Debug, PartialEq)]
 pub struct CompletedTrial {
+    /// The trial's number, as it asked.
     pub number: u64,
+    /// What was measured; less is better. A trial that was killed is told as [`f64::INFINITY`].
     pub value: f64,
+}
+
+impl CompletedTrial {
+    /// Trial `number` measured `value`.
+    pub const fn new(number: u64, value: f64) -> Self {
+        CompletedTrial { number, value }
+    }
 }
 
 impl Distribution {
@@ -148,6 +170,48 @@ impl Distribution {
 }
 
 impl ParamValue {
+    /// The double of a Float setting.
+    ///
+    /// ```
+    /// use emkhurtov::ParamValue;
+    /// assert_eq!(ParamValue::Float(0.5).as_f64(), Some(0.5));
+    /// assert_eq!(ParamValue::Int(3).as_f64(), None);
+    /// ```
+    pub const fn as_f64(self) -> Option<f64> {
+        match self {
+            ParamValue::Float(v) => Some(v),
+            _ => None,
+        }
+    }
+
+    /// The whole number of an Int setting.
+    ///
+    /// ```
+    /// use emkhurtov::ParamValue;
+    /// assert_eq!(ParamValue::Int(3).as_i64(), Some(3));
+    /// assert_eq!(ParamValue::Categorical(3).as_i64(), None);
+    /// ```
+    pub const fn as_i64(self) -> Option<i64> {
+        match self {
+            ParamValue::Int(v) => Some(v),
+            _ => None,
+        }
+    }
+
+    /// The choice of a Categorical setting, counted from 0.
+    ///
+    /// ```
+    /// use emkhurtov::ParamValue;
+    /// assert_eq!(ParamValue::Categorical(3).as_choice(), Some(3));
+    /// assert_eq!(ParamValue::Float(3.0).as_choice(), None);
+    /// ```
+    pub const fn as_choice(self) -> Option<u64> {
+        match self {
+            ParamValue::Categorical(v) => Some(v),
+            _ => None,
+        }
+    }
+
     pub(crate) fn lent(self) -> ffi::DeSetting {
         let mut s = ffi::DeSetting {
             kind: ffi::CHOICE,

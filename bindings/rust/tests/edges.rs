@@ -2,15 +2,8 @@
 
 use emkhurtov::{
     CategoricalDistribution, CompletedTrial, DEStrategy, Distribution, FloatDistribution, IntDistribution, ParamValue,
-    Refusal, Sampler, ffi, to_internal,
+    Refusal, Sampler, to_internal,
 };
-
-/// The state as bytes: it has no padding.
-fn bytes(sampler: &Sampler) -> Vec<u8> {
-    let state: *const ffi::DeState = sampler.state();
-    // SAFETY: the state is made of numbers without padding (its size is the sum of its fields').
-    unsafe { std::slice::from_raw_parts(state.cast::<u8>(), size_of::<ffi::DeState>()) }.to_vec()
-}
 
 fn sampler(size: u64) -> Sampler {
     Sampler::builder().population_size(size).seed(9).build().unwrap()
@@ -55,7 +48,7 @@ fn refusals_change_nothing() {
         })
     };
     s.sample(&float(0.0, 1.0, None), 0, &[]).unwrap();
-    let before = bytes(&s);
+    let before = s.state_bytes().to_vec();
     let log = Distribution::Float(FloatDistribution {
         low: 1.0,
         high: 10.0,
@@ -86,12 +79,9 @@ fn refusals_change_nothing() {
     for (distribution, refusal) in cases {
         assert_eq!(s.sample(&distribution, 1, &[]), Err(refusal), "{distribution:?}");
     }
-    let nan = [CompletedTrial {
-        number: 77,
-        value: f64::NAN,
-    }];
+    let nan = [CompletedTrial::new(77, f64::NAN)];
     assert_eq!(s.sample(&float(0.0, 1.0, None), 1, &nan), Err(Refusal::HistoryNan));
-    assert!(bytes(&s) == before);
+    assert!(s.state_bytes() == before);
 }
 
 #[test]
@@ -100,12 +90,12 @@ fn the_17th_dimension_is_refused() {
     for _ in 0..16 {
         s.sample(&Distribution::categorical(3), 5, &[]).unwrap();
     }
-    let before = bytes(&s);
+    let before = s.state_bytes().to_vec();
     assert_eq!(
         s.sample(&Distribution::categorical(3), 5, &[]),
         Err(Refusal::Dimensions)
     );
-    assert!(bytes(&s) == before);
+    assert!(s.state_bytes() == before);
     assert!(s.sample(&Distribution::categorical(3), 6, &[]).is_ok());
 }
 
@@ -116,16 +106,13 @@ fn the_65th_extra_is_refused() {
     for trial in 0..=4 + 64 {
         s.sample(&depth, trial, &[]).unwrap();
     }
-    let before = bytes(&s);
+    let before = s.state_bytes().to_vec();
     assert_eq!(s.sample(&depth, 100, &[]), Err(Refusal::ExtraTrials));
-    assert!(bytes(&s) == before);
+    assert!(s.state_bytes() == before);
     // A trial that has its candidate goes on, and a closing makes room.
     assert!(s.sample(&depth, 4, &[]).is_ok());
     let history: Vec<_> = (1..=4)
-        .map(|number| CompletedTrial {
-            number,
-            value: number as f64,
-        })
+        .map(|number| CompletedTrial::new(number, number as f64))
         .collect();
     assert!(s.sample(&depth, 100, &history).is_ok());
     let look = s.look().unwrap().unwrap();
@@ -166,7 +153,7 @@ fn a_clone_goes_on_alike() {
     for trial in 1..20 {
         assert_eq!(a.sample(&quota, trial, &[]), b.sample(&quota, trial, &[]));
     }
-    assert!(bytes(&a) == bytes(&b));
+    assert!(a.state_bytes() == b.state_bytes());
 }
 
 #[test]
@@ -199,4 +186,101 @@ fn refusals_say_why() {
     let refusal = Sampler::builder().population_size(161).build().unwrap_err();
     assert_eq!(refusal.number(), 3);
     assert_eq!(refusal.to_string(), "refusal 3: the population size is over 160");
+}
+
+/// One trial at a time in a choice, a double and a whole number; `lent` says what part of the history is lent. The
+/// sampler at the end, what each trial ran with, and the history.
+fn campaign(lent: fn(&[CompletedTrial]) -> &[CompletedTrial]) -> (Sampler, Vec<[ParamValue; 3]>, Vec<CompletedTrial>) {
+    let dimensions = [
+        Distribution::categorical(4),
+        Distribution::float_step(8.0, 256.0, 0.5),
+        Distribution::int(1, 64),
+    ];
+    let mut s = sampler(5);
+    let mut tried = Vec::new();
+    let mut history = Vec::new();
+    for trial in 0..1 + 5 * 20 + 1 {
+        let settings = dimensions.map(|d| s.sample(&d, trial, lent(&history)).unwrap().setting);
+        let [c, x, k] = settings;
+        let (c, x, k) = (c.as_choice().unwrap(), x.as_f64().unwrap(), k.as_i64().unwrap());
+        // No two settings measure alike; a killed trial is told as infinity.
+        let measured = 1000.0 * x + k as f64 + 0.01 * c as f64;
+        let value = if trial % 17 == 3 { f64::INFINITY } else { measured };
+        tried.push(settings);
+        history.push(CompletedTrial::new(trial, value));
+    }
+    (s, tried, history)
+}
+
+#[test]
+fn slots_hold_what_was_tried() {
+    assert_eq!(sampler(5).slot_settings(0), Ok(None));
+    let (s, tried, history) = campaign(|history| history);
+    let before = s.state_bytes().to_vec();
+    let look = s.look().unwrap().unwrap();
+    assert_eq!((look.closed, look.values.len()), (20, 5));
+    for (slot, value) in look.values.iter().enumerate() {
+        // A tie keeps the later trial; the last one's generation is open.
+        let trial = history[..history.len() - 1]
+            .iter()
+            .rposition(|t| t.value == *value)
+            .unwrap();
+        assert_eq!(s.slot_settings(slot), Ok(Some(tried[trial].to_vec())));
+    }
+    assert_eq!(s.slot_settings(look.best), Ok(Some(look.settings)));
+    assert_eq!(s.slot_settings(5), Ok(None));
+    assert_eq!(s.slot_settings(usize::MAX), Ok(None));
+    assert!(s.state_bytes() == before);
+}
+
+#[test]
+fn the_last_n_results_are_enough() {
+    let (whole, tried, _) = campaign(|history| history);
+    let (last, tried_last, _) = campaign(|history| &history[history.len().saturating_sub(5)..]);
+    assert_eq!(tried, tried_last);
+    assert!(whole.state_bytes() == last.state_bytes());
+}
+
+#[test]
+fn the_defaults_are_the_originals() {
+    let named = Sampler::builder()
+        .mutation_factor(0.8)
+        .crossover_rate(0.9)
+        .strategy(DEStrategy::Rand1)
+        .seed(0);
+    let state = |b: emkhurtov::SamplerBuilder| b.build().unwrap().state_bytes().to_vec();
+    assert!(state(Sampler::builder()) == state(named));
+    assert!(state(named) != state(named.population_size(15)));
+}
+
+#[test]
+fn the_library_is_of_this_version() {
+    assert_eq!(emkhurtov::version(), env!("CARGO_PKG_VERSION"));
+}
+
+#[test]
+fn threads_may_share_a_sampler() {
+    fn shared<T: Send + Sync + Clone + 'static>() {}
+    shared::<Sampler>();
+    shared::<emkhurtov::SamplerBuilder>();
+    shared::<emkhurtov::Look>();
+    shared::<Refusal>();
+    let (s, _, _) = campaign(|history| history);
+    let look = s.look();
+    std::thread::scope(|scope| {
+        let lookers = [(); 2].map(|()| scope.spawn(|| s.look()));
+        for looker in lookers {
+            assert_eq!(looker.join().unwrap(), look);
+        }
+    });
+    // Rust's threads have the stack that a call needs; so has one of 1 MB.
+    let mut moved = s.clone();
+    let quota = Distribution::float_step(8.0, 256.0, 0.5);
+    let small = std::thread::Builder::new().stack_size(1 << 20);
+    let there = small
+        .spawn(move || moved.sample(&quota, 500, &[]))
+        .unwrap()
+        .join()
+        .unwrap();
+    assert_eq!(there, s.clone().sample(&quota, 500, &[]));
 }
