@@ -39,8 +39,9 @@ lib: target/lib/libemkhurtov.a
 target/staticlib/libexports.a: crates.txt $(RATTLE)
 	@mkdir -p target/lib
 	@command -v rt >/dev/null || { echo "make: the library is built by the Rattle toolchain, and rt is not on the PATH." >&2; exit 1; }
-	@echo "exports and what it stands on: proved and compiled (target/lib/rt.log) .."
-	@rt staticlib exports >target/lib/rt.log 2>&1 || { tail -n 40 target/lib/rt.log; exit 1; }
+	@echo "exports, proved and compiled, and first what it stands on where that has changed (target/lib/rt.log) .."
+	@{ rt staticlib exports || echo "not built"; } 2>&1 | tee target/lib/rt.log | sed -un '/unchanged/d;s/^rt: \(.* proved (.*\)/  \1/p'
+	@! grep -qx "not built" target/lib/rt.log || { tail -n 40 target/lib/rt.log; exit 1; }
 
 # The C beside the proved code. Nothing of the folder, the time, the language or the caller's flags goes into the object.
 target/lib/emkhurtov.o: bindings/c/emkhurtov.c include/emkhurtov.h

@@ -212,7 +212,7 @@ DeAnswer de_new(DeState *state, DeSetup setup);
  *   the setting is decoded by the one that the first trial lent. Past the last dimension it is drawn from the lent one.
  * - A generation closes in the call that finds the results of its first N trials in the lent history. So a caller that
  *   runs one trial at a time may lend the last N results alone.
- * - A generation waits for a trial that is not told: the trials after it are extras, which do not compete, and the 65th
+ * - A generation waits for a trial that is not told: beyond its N trials come extras, which do not compete, and the 65th
  *   is refused by DE_EXTRA_TRIALS. Telling the missing trial frees it; one that was killed is told as +infinity. */
 DeAnswer de_sample(DeState *state, DeCall call, const DeCompletedTrial *history, size_t count);
 

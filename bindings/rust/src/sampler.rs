@@ -69,7 +69,7 @@ impl Sampler {
     ///   setting is decoded by the one that the first trial lent. Past the last dimension it is drawn from the lent one.
     /// - A generation closes in the call that finds the results of its first N trials in the lent history. So a caller
     ///   that runs one trial at a time may lend the last N results alone.
-    /// - A generation waits for a trial that is not told: the trials after it are extras, which do not compete, and the
+    /// - A generation waits for a trial that is not told: beyond its N trials come extras, which do not compete, and the
     ///   65th is refused by [`Refusal::ExtraTrials`]. Telling the missing trial frees it; one that was killed is told as
     ///   [`f64::INFINITY`].
     ///
