@@ -12,14 +12,14 @@ typedef struct {
     double quota;  /* the noisy container's block quota, MB/s */
     int64_t flush; /* how often dirty pages are flushed, ms */
     int64_t depth; /* requests in flight */
-    uint64_t scheduler;
+    int64_t scheduler;
 } Settings;
 
 static const DeDistribution dimensions[DIMENSIONS] = {
     {.kind = DE_FLOAT, .low = 8.0, .high = 256.0, .stepped = 1, .step = 0.5},
     {.kind = DE_INT, .whole_low = 5, .whole_high = 500, .stepped = 1, .whole_step = 5},
     {.kind = DE_INT, .whole_low = 1, .whole_high = 64},
-    {.kind = DE_CHOICE, .n_choices = 4},
+    {.kind = DE_INT, .whole_low = 0, .whole_high = 3}, /* the scheduler: inherited, as a choice is not */
 };
 
 /* The stand-in for the measurement: the line controller's wait for a write (99th percentile, ms). */
@@ -48,10 +48,7 @@ static void take(Settings *s, int dimension, DeAnswer answer) {
         s->quota = answer.real;
         break;
     case DE_INT:
-        *(dimension == 1 ? &s->flush : &s->depth) = answer.whole;
-        break;
-    case DE_CHOICE:
-        s->scheduler = answer.choice;
+        *(dimension == 1 ? &s->flush : dimension == 2 ? &s->depth : &s->scheduler) = answer.whole;
         break;
     default:
         stop("a setting", answer);
@@ -90,7 +87,7 @@ int main(void) {
     static DeCompletedTrial history[TRIALS];
     DeSetup setup = {.mutation_factor = 0.7,
                      .crossover_rate = 0.9,
-                     .strategy = DE_RAND1,
+                     .strategy = DE_CURRENT_TO_BEST1,
                      .sized = 1,
                      .population_size = SLOTS,
                      .seed = SEED};

@@ -11,6 +11,11 @@ use std::process::ExitCode;
 
 use emkhurtov::{CompletedTrial, DEStrategy, Distribution, Look, ParamValue, Refusal, Sampled, Sampler};
 
+mod disk;
+
+use disk::{Settings, dimensions, measure};
+
+// The set-up is docs/GUIDE.md's for few trials.
 const SLOTS: u64 = 12;
 const SEED: u64 = 2026;
 /// The first trial finds the dimensions; twelve generations follow, and the last trial's call closes the twelfth.
@@ -20,56 +25,20 @@ const CR: f64 = 0.9;
 
 const SCHEDULERS: [&str; 4] = ["none", "mq-deadline", "kyber", "bfq"];
 
-/// What a trial runs with.
-#[derive(Clone, Copy)]
-struct Settings {
-    /// The noisy container's block quota, MB/s.
-    quota: f64,
-    /// How often dirty pages are flushed, ms.
-    flush: i64,
-    /// Requests in flight.
-    depth: i64,
-    scheduler: u64,
-}
-
-impl Settings {
-    /// A setting for each dimension, in their order.
-    fn of(settings: &[ParamValue]) -> Option<Settings> {
-        let [quota, flush, depth, scheduler] = *settings else {
-            return None;
-        };
-        Some(Settings {
-            quota: quota.as_f64()?,
-            flush: flush.as_i64()?,
-            depth: depth.as_i64()?,
-            scheduler: scheduler.as_choice()?,
-        })
+/// A distribution's words in a script.
+fn words(distribution: &Distribution) -> String {
+    let bits = |x: f64| format!("{:016x}", x.to_bits());
+    match *distribution {
+        Distribution::Float(d) => {
+            let step = d.step.map_or("-".to_owned(), bits);
+            format!("float {} {} lin {step}", bits(d.low), bits(d.high))
+        }
+        Distribution::Int(d) => {
+            let step = d.step.map_or("-".to_owned(), |step| step.to_string());
+            format!("int {} {} lin {step}", d.low, d.high)
+        }
+        Distribution::Categorical(d) => format!("choice {}", d.n_choices),
     }
-}
-
-/// The stand-in: how long the line controller waits for a write (99th percentile, ms). A small quota starves the
-/// container, whose backlog then bursts; a large one takes the disk from its neighbours; the depth that suits depends on
-/// the scheduler. Sums, products and quotients only, so that every machine gives the same bits.
-fn measure(s: Settings) -> f64 {
-    let (base, suits) = [(3.1, 6.0), (1.4, 18.0), (0.9, 12.0), (1.1, 30.0)][s.scheduler as usize];
-    let quota = (s.quota - 92.0) / 48.0;
-    let flush = (s.flush as f64 - 120.0) / 90.0;
-    let depth = (s.depth as f64 - suits) / 10.0;
-    base + 4.0 * quota * quota + 1.5 * flush * flush + depth * depth + 0.8 * quota * depth
-}
-
-/// The dimensions, in the order in which every trial asks for them, with their words in a script.
-fn dimensions() -> [(Distribution, String); 4] {
-    let bits = f64::to_bits;
-    [
-        (
-            Distribution::float_step(8.0, 256.0, 0.5),
-            format!("float {:016x} {:016x} lin {:016x}", bits(8.0), bits(256.0), bits(0.5)),
-        ),
-        (Distribution::int_step(5, 500, 5), "int 5 500 lin 5".to_owned()),
-        (Distribution::int(1, 64), "int 1 64 lin -".to_owned()),
-        (Distribution::categorical(4), "choice 4".to_owned()),
-    ]
 }
 
 /// The three things that a run can print.
@@ -130,9 +99,9 @@ impl Run {
 /// One trial's settings.
 fn ask(sampler: &mut Sampler, trial: u64, history: &[CompletedTrial], run: &mut Run) -> Result<Settings, Refusal> {
     let mut settings = Vec::new();
-    for (distribution, words) in &dimensions() {
+    for distribution in &dimensions() {
         let sampled = sampler.sample(distribution, trial, history)?;
-        run.sampled(trial, words, sampled);
+        run.sampled(trial, &words(distribution), sampled);
         settings.push(sampled.setting);
     }
     Ok(Settings::of(&settings).expect("each dimension was asked for, and answers are of its kind"))
@@ -143,7 +112,7 @@ fn campaign() -> Result<Run, Refusal> {
     let mut sampler = Sampler::builder()
         .mutation_factor(F)
         .crossover_rate(CR)
-        .strategy(DEStrategy::Rand1)
+        .strategy(DEStrategy::CurrentToBest1)
         .population_size(SLOTS)
         .seed(SEED)
         .build()?;
@@ -153,7 +122,7 @@ fn campaign() -> Result<Run, Refusal> {
     );
     let _ = writeln!(
         run.script,
-        "new {:016x} {:016x} rand1 {SLOTS} {SEED}",
+        "new {:016x} {:016x} current-to-best1 {SLOTS} {SEED}",
         F.to_bits(),
         CR.to_bits()
     );
