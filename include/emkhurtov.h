@@ -204,9 +204,10 @@ DeAnswer de_new(DeState *state, DeSetup setup);
  * or DE_UNKNOWN; or DE_REFUSED by the first refusal that applies. Where there is no setting, draws is 0 and *state is
  * as it was, bit for bit. The history is read and not kept; of two entries with one number the last counts.
  *
- * The rule for callers; docs/FINDINGS.md has what comes of breaking it. The first trial asks for all its dimensions
- * before any other trial calls. A trial asks for all its dimensions in one go, with the same history lent to each call.
- * No trial number is used again, and every trial is told.
+ * The rule for callers: ask for all settings of a trial in one go, with no other trial's call in between and the same
+ * history lent to each call; the first trial has asked for everything before any other trial calls. Never use a trial
+ * number again, not for a second attempt either. Tell every trial once it has ended, a killed one as +infinity.
+ * docs/FINDINGS.md shows what goes wrong otherwise.
  *
  * - After the first trial the lent distribution does not decide the answer. It is judged (DE_BOUNDS to DE_CHOICES), and
  *   the setting is decoded by the one that the first trial lent. Past the last dimension it is drawn from the lent one.

@@ -61,9 +61,10 @@ impl Sampler {
     /// A refusal leaves the sampler as it was. The history is read and not kept; of two entries with one number the
     /// last counts.
     ///
-    /// The rule for callers; docs/FINDINGS.md has what comes of breaking it. The first trial asks for all its dimensions
-    /// before any other trial calls. A trial asks for all its dimensions in one go, with the same history lent to each
-    /// call. No trial number is used again, and every trial is told.
+    /// The rule for callers: ask for all settings of a trial in one go, with no other trial's call in between and the
+    /// same history lent to each call; the first trial has asked for everything before any other trial calls. Never use a
+    /// trial number again, not for a second attempt either. Tell every trial once it has ended, a killed one as
+    /// `f64::INFINITY`. docs/FINDINGS.md shows what goes wrong otherwise.
     ///
     /// - After the first trial the lent distribution does not decide the answer. It is judged (refusals 4 to 7), and the
     ///   setting is decoded by the one that the first trial lent. Past the last dimension it is drawn from the lent one.
