@@ -16,7 +16,7 @@ begun-requires c κs = search needs
 returns : tie.Need-returns
 returns c =
     let a = c .before .before .before .before .args in
-    λ h. set-up (a .run) (a .state) h (a .setup) _ _ (c .before .before .before .build .ensures) (c .before .before .started .ensures) (c .begun .ensures)
+    λ h. set-up (a .run) (a .state) h (a .setup) _ _ (c .before .before .before .build .ensures .0) (c .before .before .started .ensures) (c .begun .ensures)
 
 pub new-spec : {M : Type 1} → statement M
 new-spec = tie.close (tie.spec build-requires started-requires begun-requires returns)
