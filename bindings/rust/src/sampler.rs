@@ -106,7 +106,8 @@ impl Sampler {
         }
     }
 
-    /// What the closed generations have made; `None` before the first closing.
+    /// What the closed generations have made; `None` before the first closing. It asks the library once for the values
+    /// and once for each dimension of the best slot.
     ///
     /// ```
     /// # use emkhurtov::{Refusal, Sampler};
