@@ -71,7 +71,9 @@ builtRefusal (Refused r) = some (refusalNumber r)
 
 -- the table's 1, 2 and 3, the first that applies
 unfoldable pub setupRefusal : Setup → Option ℕ
-setupRefusal S = orElse (refuseIf (factorFails (S .«mutation_factor»)) 1) (orElse (refuseIf (rateFails (S .«crossover_rate»)) 2) (refuseIf (sizeFails (S .«population_size»)) 3))
+setupRefusal S =
+    orElse (refuseIf (factorFails (S .«mutation_factor»)) 1)
+    (orElse (refuseIf (rateFails (S .«crossover_rate»)) 2) (refuseIf (sizeFails (S .«population_size»)) 3))
 
 -- ---- "Fresh is what an accepted set-up returns"
 

@@ -1,5 +1,6 @@
--- DEMAND 1: "Every sample call, with whichever state, distribution, trial number and history, ends in a setting or in one numbered refusal of document 01. A refusal
--- has no setting, counts zero draws and hands back the state that came in, generator word included." An answer of the code is a setting or a refusal, by its type.
+-- DEMAND 1: "Every sample call, with whichever state, distribution, trial number and history, ends in a setting or in one numbered refusal of
+-- document 01. A refusal has no setting, counts zero draws and hands back the state that came in, generator word included." An answer of the code
+-- is a setting or a refusal, by its type.
 use Prim.Native.Nat.{ℕ}
 use mathlib.Core.Path.{_≡_}
 use mathlib.Core.Bool.{cond}
@@ -17,7 +18,8 @@ use Rattle.de.specs.Answer.{plainAnswer}
 use Rattle.de.specs.declared.Answer.the-variants.{Refused}
 use Rattle.de.specs.declared.Sampled.{Sampled}
 
--- The table for a sample call on any state: 0 where the state isn't sound, then 4 to 8 of the call, 9 and 10, and 11. "The first that applies, in this order, is given, and only then."
+-- The table for a sample call on any state: 0 where the state isn't sound, then 4 to 8 of the call, 9 and 10, and 11. "The first that applies, in
+-- this order, is given, and only then."
 abbrev pub tableRefusal : State → Call de → Option ℕ
 tableRefusal s c =
     cond (soundState s)

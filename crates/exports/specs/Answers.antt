@@ -46,7 +46,13 @@ unfoldable pub settledOf : Bool → Bool → Plain.Answer de → ℕ → Settled
 settledOf call state answer draws = cond call (cond state (answered answer draws) (refusedBy 0)) unknown
 
 unfoldable pub questionOf : DeState → DeCall → Question
-questionOf f c = record { «known_call» = knownDistribution (c .distribution); «known_state» = knownState f; distribution = distributionOf (c .distribution); state = openOf f }
+questionOf f c =
+    record {
+      «known_call» = knownDistribution (c .distribution);
+      «known_state» = knownState f;
+      distribution = distributionOf (c .distribution);
+      state = openOf f;
+    }
 
 -- ---- the call
 

@@ -1,5 +1,5 @@
--- One of each struct that crosses. Each struct numbers its own fields from 1 on in the order of declaration; an array of numbers takes two, in its first and its last place; a field that is
--- a struct, and the first and the last of an array of structs, hold that struct's own marks. The rest is 0.
+-- One of each struct that crosses. Each struct numbers its own fields from 1 on in the order of declaration; an array of numbers takes two, in its
+-- first and its last place; a field that is a struct, and the first and the last of an array of structs, hold that struct's own marks. The rest is 0.
 use Prim.Native.Nat.{ℕ}
 use mathlib.Core.List.{List}
 use lib.Ieee.{Float, binary64, ofInt}

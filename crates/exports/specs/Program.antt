@@ -1,4 +1,5 @@
--- What C callers send, and the library as a sampler that demand 3 is said of: the lent memory, the view of what it holds, the memory after an accepted set-up call, and the sample call.
+-- What C callers send, and the library as a sampler that demand 3 is said of: the lent memory, the view of what it holds, the memory after an
+-- accepted set-up call, and the sample call.
 use mathlib.Core.Path.{_≡_}
 use mathlib.Core.Bool.{Bool, false, cond}
 use mathlib.Core.List.{List, [], _∷_}
@@ -48,16 +49,18 @@ meantBy (q ∷ qs) = cond (isKnown q) (meant q ∷ meantBy qs) (meantBy qs)
 abbrev pub readAnswer : DeAnswer → Plain.Answer de
 readAnswer a =
     cond (eqb (a .kind) 0) (Plain.refused (a .refusal))
-    (cond (eqb (a .kind) 1) (Plain.given (P.Float (a .real))) (cond (eqb (a .kind) 2) (Plain.given (P.Int (a .whole))) (Plain.given (P.Categorical (a .choice)))))
+    (cond (eqb (a .kind) 1) (Plain.given (P.Float (a .real)))
+    (cond (eqb (a .kind) 2) (Plain.given (P.Int (a .whole))) (Plain.given (P.Categorical (a .choice)))))
 
--- the sample call, whose contract is `sampleAnswer` and `sampleState`
+-- the sample call, by its contract: what it answers, and what it leaves in the memory
+abbrev pub answerTo : DeState → Sent → DeAnswer
+answerTo f q = sampleAnswer f (q .call) (q .history)
+
+abbrev pub leaves : DeState → Sent → DeState
+leaves f q = sampleState f (q .call) (q .history)
+
 abbrev pub called : DeState → Sent → Result de DeState
-called f q =
-    record {
-      answer = readAnswer (sampleAnswer f (q .call) (q .history));
-      draws = (sampleAnswer f (q .call) (q .history)) .draws;
-      state = sampleState f (q .call) (q .history);
-    }
+called f q = record { answer = readAnswer (answerTo f q); draws = (answerTo f q) .draws; state = leaves f q }
 
 -- a call in numbers, with 0 in the fields that its kind has no use for
 abbrev pub spelled : Call de → Sent
@@ -73,12 +76,12 @@ library f u = record { Kept = DeState; view = λ g. view (openOf g); new = newSt
 unfoldable pub readsFrom : DeState → DeSetup → DeState → List Sent → List (Result de (Plain.State de))
 readsFrom f u g [] = []
 readsFrom f u g (q ∷ qs) =
-    cond (isKnown q) (viewed de (library f u) (called g q) ∷ readsFrom f u (sampleState g (q .call) (q .history)) qs) (readsFrom f u (sampleState g (q .call) (q .history)) qs)
+    cond (isKnown q) (viewed de (library f u) (called g q) ∷ readsFrom f u (leaves g q) qs) (readsFrom f u (leaves g q) qs)
 
 -- DEMAND 3 OF THE LIBRARY, over a list of sent calls from what an accepted set-up call left in the memory
 pub record LibraryDemand3 (f : DeState) (u : DeSetup) (qs : List Sent) : Type 0 where
   -- a call with a number that names no case is answered by kind 4 and leaves the memory as it was, whatever the memory holds
-  pub unknown : All (λ q. isKnown q ≡ false → (g : DeState) → (sampleAnswer g (q .call) (q .history) ≡ bareAnswer 4 0) × (sampleState g (q .call) (q .history) ≡ g)) qs
+  pub unknown : All (λ q. isKnown q ≡ false → (g : DeState) → (answerTo g q ≡ bareAnswer 4 0) × (leaves g q ≡ g)) qs
   -- to the others the caller reads what the library as a sampler returns to the calls that they stand for,
   pub reads : readsFrom f u (newState f u) qs ≡ returnsFrom de (library f u) (newState f u) (meantBy qs)
   -- and of that sampler and these calls demand 3 holds
