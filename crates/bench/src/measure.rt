@@ -32,8 +32,7 @@ fn figures_of(state: State, n: u64) -> Figures {
     }
 }
 
-fn large(state: State) {
-    let f = figures_of(state, 160);
+fn large(f: Figures) {
     time(b"copy-160-16", f.copy);
     time(b"sample-160-16", f.sample);
     time(b"closing-160-16", f.closing);
@@ -41,8 +40,7 @@ fn large(state: State) {
     ratio(b"closing/copy-160-16", f.closing, f.copy);
 }
 
-fn small(state: State) {
-    let f = figures_of(state, 20);
+fn small(f: Figures) {
     time(b"copy-20-2", f.copy);
     time(b"sample-20-2", f.sample);
     time(b"closing-20-2", f.closing);
@@ -61,7 +59,7 @@ fn long_history(state: State) {
 pub fn measure() {
     let seed = os::arg_count() as u64;
     let state = open(seed, 16, 162);
-    large(state);
-    small(open(seed, 2, 22));
+    large(figures_of(state, 160));
+    small(figures_of(open(seed, 2, 22), 20));
     long_history(state);
 }
