@@ -154,28 +154,33 @@ static void defaults(void) {
            s.seed == 0);
 }
 
-/* A campaign in two dimensions, one trial at a time, of which trial `killed` is told as +infinity. It lends the whole
- * history or the last N results alone, and keeps what each trial ran with. */
+/* A campaign in three dimensions, one of each kind, one trial at a time, of which trial `killed` is told as +infinity.
+ * It lends the whole history or the last N results alone, and keeps what each trial ran with. */
 enum { TRIALS = 4 * 9 + 2 };
 typedef struct {
-    DeAnswer settings[TRIALS][2];
+    DeAnswer settings[TRIALS][3];
     DeCompletedTrial history[TRIALS];
 } Campaign;
 
 static void campaign(Campaign *c, int whole, uint64_t killed) {
     static const DeDistribution depth = {
         .kind = DE_INT, .whole_low = 1, .whole_high = 64, .stepped = DE_YES, .whole_step = 3};
+    static const DeDistribution scheduler = {.kind = DE_CHOICE, .n_choices = 4};
+    const DeDistribution asked[3] = {quota, depth, scheduler};
     EXPECT(de_checked_new(&state, sizeof state, &setup).kind == DE_MADE);
     for (uint64_t trial = 0; trial < TRIALS; trial++) {
         uint64_t from = whole || trial < setup.population_size ? 0 : trial - setup.population_size;
-        for (int i = 0; i < 2; i++) {
-            DeCall call = {.trial = trial, .distribution = i == 0 ? quota : depth};
+        for (int i = 0; i < 3; i++) {
+            DeCall call = {.trial = trial, .distribution = asked[i]};
             c->settings[trial][i] =
                 de_checked_sample(&state, sizeof state, &call, c->history + from, (size_t)(trial - from));
-            EXPECT(c->settings[trial][i].kind == (i == 0 ? DE_FLOAT : DE_INT));
+            EXPECT(c->settings[trial][i].kind == asked[i].kind);
         }
         double away = c->settings[trial][0].real - 92.0;
-        double value = trial == killed ? (double)INFINITY : away * away + (double)c->settings[trial][1].whole;
+        EXPECT(c->settings[trial][2].choice < scheduler.n_choices);
+        double measured =
+            away * away + (double)c->settings[trial][1].whole + 5.0 * (double)c->settings[trial][2].choice;
+        double value = trial == killed ? (double)INFINITY : measured;
         c->history[trial] = (DeCompletedTrial){trial, value};
     }
 }
@@ -204,11 +209,13 @@ static void slots(void) {
         }
         DeAnswer first = de_checked_slot_setting(&state, sizeof state, slot, 0);
         DeAnswer second = de_checked_slot_setting(&state, sizeof state, slot, 1);
-        EXPECT(trial > 0 && first.draws == 0 && second.draws == 0);
+        DeAnswer third = de_checked_slot_setting(&state, sizeof state, slot, 2);
+        EXPECT(trial > 0 && first.draws == 0 && second.draws == 0 && third.draws == 0);
         EXPECT(first.kind == DE_FLOAT && first.real == c.settings[trial][0].real);
         EXPECT(second.kind == DE_INT && second.whole == c.settings[trial][1].whole);
+        EXPECT(third.kind == DE_CHOICE && third.choice == c.settings[trial][2].choice);
     }
-    EXPECT(de_checked_slot_setting(&state, sizeof state, 0, 2).kind == DE_NOTHING);
+    EXPECT(de_checked_slot_setting(&state, sizeof state, 0, 3).kind == DE_NOTHING);
     EXPECT(de_checked_slot_setting(&state, sizeof state, 4, 0).kind == DE_NOTHING);
     EXPECT(de_checked_slot_setting(&state, sizeof state, UINT64_MAX, UINT64_MAX).kind == DE_NOTHING);
     EXPECT(memcmp(&state, &before, sizeof state) == 0);
