@@ -1,4 +1,4 @@
--- What a slot holds in a dimension: the candidate that was stored with its value, decoded as the trials that ran with it were handed it.
+-- What a slot holds in a dimension: its parent, decoded by the stored distribution as for a trial that has the candidate.
 use Prim.Native.Nat.{ℕ}
 use mathlib.Core.Bool.{cond}
 use mathlib.Core.Option.{Option, none, some}

@@ -1,4 +1,5 @@
 // Standard input, a line at a time.
+ghost use Rattle.lines.specs.Reading.{ShortLine};
 use libc::STDIN_FILENO;
 
 // The bytes of the input buffer from `at` to `end` are still to be taken; `line` lines have begun.
@@ -79,7 +80,9 @@ fn next_byte(input: &mut [u8; 65536], cursor: Cursor) -> Taken {
 }
 
 // What a line of which n bytes came is where no further byte comes.
-fn cut_short(byte: Byte, n: usize) -> Line {
+fn cut_short(byte: Byte, n: usize) -> Line
+    ensures { λ r. ⌜ ShortLine r ⌝ }
+{
     if let Byte::Failed = byte {
         return Line::Failed;
     }
@@ -91,7 +94,9 @@ fn counted(n: u64) -> u64 {
 }
 
 // The next line, put at the start of `line`.
-pub fn next_line(input: &mut [u8; 65536], line: &mut [u8; 512], cursor: Cursor) -> Fetched {
+pub fn next_line(input: &mut [u8; 65536], line: &mut [u8; 512], cursor: Cursor) -> Fetched
+    ensures { λ r. ⌜ ShortLine (r .line) ⌝ }
+{
     let mut c = cursor;
     c.line = counted(c.line);
     let mut n: usize = 0;

@@ -5,6 +5,7 @@ ghost use mathlib.Core.Path.{_≡_};
 ghost use lib.ListN.{length, take};
 ghost use Rattle.script.specs.Commands.{commandOf};
 ghost use Rattle.script.specs.declared.command.Command.the-variants.{Tell};
+ghost use Rattle.lines.specs.Reading.{HandedOn};
 ghost use Rattle.lines.specs.History.{historyIn, heardOf, toldTo, historyAfter};
 use crate::reader::Cursor;
 use crate::reader::Line;
@@ -127,7 +128,9 @@ pub fn next_asked(
     values: &mut [f64; 65536],
     cursor: Cursor,
     count: usize,
-) -> Asked {
+) -> Asked
+    ensures { λ r. ⌜ HandedOn (r .heard) ⌝ }
+{
     let mut c = cursor;
     let mut n = count;
     let mut turns = u64::MAX;

@@ -1,17 +1,19 @@
 // Runs a campaign script: reads it from standard input, and writes a line for each line that asks something.
 // A program has no exit status of its own here: a malformed script shows in the last line, and a read or a write that
 // failed on standard error.
+mod rows;
 mod session;
+mod sink;
 mod whole;
 
 use crate::session::Run;
 use crate::session::Step;
 use crate::session::obey;
+use crate::sink::Sink;
 use de::build::DESamplerBuilder;
 use libc::STDERR_FILENO;
 use lines::reader::Cursor;
 use lines::told::Heard;
-use rows::sink::Sink;
 use state::State;
 
 // A run that no further line is read for: the script has ended, or a read failed.
@@ -44,7 +46,7 @@ fn answer<'a>(
 
 // Writes what waits at the run's end.
 fn finish(out: &[u8; 8192], sink: Sink) {
-    let s = rows::sink::flush(out, sink);
+    let s = crate::sink::flush(out, sink);
     if !s.ok {
         io::write_all(
             STDERR_FILENO,

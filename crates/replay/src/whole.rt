@@ -1,19 +1,19 @@
 // The whole state: a line for itself, then one for each parent, candidate and open trial.
 ghost use Prim.Native.Nat.{_≤_};
+use crate::rows::least;
+use crate::rows::put_next;
+use crate::rows::put_next_double;
+use crate::sink::Sink;
+use crate::sink::put;
+use crate::sink::put_double;
+use crate::sink::put_pattern;
+use crate::sink::put_whole;
 use candidates::Candidate;
 use candidates::continuous_place;
 use distribution::DimIdx;
 use distribution::DimensionInfo;
 use distribution::is_continuous;
 use evolution::Member;
-use rows::least;
-use rows::put_next;
-use rows::put_next_double;
-use rows::sink::Sink;
-use rows::sink::put;
-use rows::sink::put_double;
-use rows::sink::put_pattern;
-use rows::sink::put_whole;
 use state::FirstTrial;
 use state::State;
 use state::TrialProgress;

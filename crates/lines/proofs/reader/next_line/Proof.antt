@@ -27,10 +27,10 @@ cut-short-requires : tie.Need-cut-short-requires Inv-loop μ-loop
 cut-short-requires c κs = search needs
 
 returns : tie.Need-returns Inv-loop μ-loop
-returns c = tt
+returns c = c .cut-short .ensures
 
 returns-2 : tie.Need-returns-2 Inv-loop μ-loop
-returns-2 c = tt
+returns-2 c = omega arith
 
 element-write-line : tie.Need-element-write-line Inv-loop μ-loop
 element-write-line c = omega arith

@@ -1,5 +1,14 @@
--- `next_asked` ends: the turns fall.
+-- `next_asked` meets its contract: what is quiet goes round again, and the turns fall.
+use mathlib.Core.List.{[], _∷_}
+use mathlib.Core.Logic.{inl, inr}
+use native.Mathlib.Omega.{arith}
 use borrow.Author.Needs.{needs}
+use types.Run.{OneOf}
+use denote.Enum.Declared.{tagOf}
+use Rattle.lines.specs.Reading.{HandedOn}
+use Rattle.lines.specs.declared.told.Heard.{Heard}
+use Rattle.lines.specs.declared.told.Heard.the-variants as H
+use Rattle.lines.proofs.told.Heard as told
 use Rattle.lines.proofs.told.next_asked.Statement.{statement}
 use Rattle.lines.proofs.told.next_asked.Tie as tie
 
@@ -21,8 +30,19 @@ hear-fetched-requires c κs = search needs
 enum-known-heard : tie.Need-enum-known-heard Inv-loop μ-loop
 enum-known-heard c = search needs
 
+handed-on : (h : Heard) → OneOf (1 ∷ 2 ∷ 3 ∷ []) (tagOf told.the-type h) → HandedOn h
+handed-on (H.Quiet n) k = no k
+  where
+    no : OneOf (1 ∷ 2 ∷ 3 ∷ []) 0 → ⊥
+    no (inl e) = omega (arith, e)
+    no (inr (inl e)) = omega (arith, e)
+    no (inr (inr e)) = omega (arith, e)
+handed-on (H.Ask c) k = tt
+handed-on H.End k = tt
+handed-on H.Failed k = tt
+
 returns : tie.Need-returns Inv-loop μ-loop
-returns c = tt
+returns c = handed-on (c .before .hear-fetched .result) (c .match .keys2)
 
 sub-turns : tie.Need-sub-turns Inv-loop μ-loop
 sub-turns c = search needs

@@ -12,8 +12,8 @@ use mir.ValLaws.{toZ-ofZ}
 use borrow.Author.Tests.{leb-false}
 use borrow.Author.Needs.{needs}
 use Rattle.common.proofs.PlaceLaws.{minus-one}
-use Rattle.rows.proofs.sink.size.Statement.{statement}
-use Rattle.rows.proofs.sink.size.Tie as tie
+use Rattle.replay.proofs.sink.size.Statement.{statement}
+use Rattle.replay.proofs.sink.size.Tie as tie
 
 up-cast : (x : ℤ) → SFits w64 x → leZ (pos 0) x ≡ true → T (nonNeg x) × Fits w64 (natAbs x)
 up-cast (pos n) f e = (tt, record { fits = omega (arith, f .sfits) })

@@ -1,4 +1,4 @@
-// The rows that `replay` writes, as far as they need no sampler: words, numbers, settings, refusals, a look's values.
+// The rows that are written, as far as they need no sampler: words, numbers, settings, refusals, a look's values.
 ghost use mathlib.Core.Path.{_≡_};
 ghost use Prim.Native.Nat.{_≤_};
 ghost use Rattle.distribution.specs.Refusals.{refusalNumber};
@@ -9,8 +9,6 @@ use crate::sink::put_signed;
 use crate::sink::put_whole;
 use distribution::ParamValue;
 use distribution::Refusal;
-
-pub mod sink;
 
 // Document 01's number.
 pub fn refusal_number(refusal: Refusal) -> u64

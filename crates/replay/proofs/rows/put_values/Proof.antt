@@ -2,8 +2,8 @@
 use Prim.Native.Nat.{_-_, _≤_}
 use borrow.Author.Needs.{needs}
 use native.Mathlib.Omega.{arith}
-use Rattle.rows.proofs.put_values.Statement.{statement}
-use Rattle.rows.proofs.put_values.Tie as tie
+use Rattle.replay.proofs.rows.put_values.Statement.{statement}
+use Rattle.replay.proofs.rows.put_values.Tie as tie
 
 abbrev Inv-loop : tie.InvT-loop
 Inv-loop out₀ count values n s₀ i₀ out s i = i ≤ n
