@@ -8,6 +8,7 @@ use Rattle.distribution.specs.declared.Verdict.{Verdict}
 use Rattle.distribution.specs.declared.Verdict.the-variants as Judged
 use Rattle.evolution.specs.declared.DEStrategy.{DEStrategy}
 use Rattle.evolution.specs.declared.DEStrategy.the-variants.{Rand1}
+use Rattle.evolution.specs.declared.PopulationSize.{PopulationSize}
 use Rattle.evolution.specs.declared.PopulationSize.the-variants.{Unset, Of}
 use Rattle.evolution.specs.declared.Setup.{Setup}
 use Rattle.ledger.specs.Words.{orElse, refuseIf}
@@ -22,38 +23,32 @@ use Rattle.de.specs.declared.build.DESamplerBuilder.{DESamplerBuilder}
 
 -- ---- the builder: the Rust's options and defaults
 
+abbrev builderOf : Float → Float → DEStrategy → PopulationSize → ℕ → DESamplerBuilder
+builderOf F CR strategy size seed =
+    record { setup = record { «mutation_factor» = F; «crossover_rate» = CR; strategy = strategy; «population_size» = size; seed = seed } }
+
 -- a decimal literal: the double nearest to n / 10
 abbrev tenths : ℕ → Float
 tenths n = round binary64 false n 10
 
 unfoldable pub defaults : DESamplerBuilder
 unfolding round
-defaults = record { setup = record { «mutation_factor» = tenths 8; «crossover_rate» = tenths 9; strategy = Rand1; «population_size» = Unset; seed = 0 } }
+defaults = builderOf (tenths 8) (tenths 9) Rand1 Unset 0
 
 abbrev pub withSize : DESamplerBuilder → ℕ → DESamplerBuilder
-withSize b n =
-    let S = b .setup in
-    record { setup = record { «mutation_factor» = S .«mutation_factor»; «crossover_rate» = S .«crossover_rate»; strategy = S .strategy; «population_size» = Of n; seed = S .seed } }
+withSize b n = let S = b .setup in builderOf (S .«mutation_factor») (S .«crossover_rate») (S .strategy) (Of n) (S .seed)
 
 abbrev pub withFactor : DESamplerBuilder → Float → DESamplerBuilder
-withFactor b F =
-    let S = b .setup in
-    record { setup = record { «mutation_factor» = F; «crossover_rate» = S .«crossover_rate»; strategy = S .strategy; «population_size» = S .«population_size»; seed = S .seed } }
+withFactor b F = let S = b .setup in builderOf F (S .«crossover_rate») (S .strategy) (S .«population_size») (S .seed)
 
 abbrev pub withRate : DESamplerBuilder → Float → DESamplerBuilder
-withRate b CR =
-    let S = b .setup in
-    record { setup = record { «mutation_factor» = S .«mutation_factor»; «crossover_rate» = CR; strategy = S .strategy; «population_size» = S .«population_size»; seed = S .seed } }
+withRate b CR = let S = b .setup in builderOf (S .«mutation_factor») CR (S .strategy) (S .«population_size») (S .seed)
 
 abbrev pub withStrategy : DESamplerBuilder → DEStrategy → DESamplerBuilder
-withStrategy b strategy =
-    let S = b .setup in
-    record { setup = record { «mutation_factor» = S .«mutation_factor»; «crossover_rate» = S .«crossover_rate»; strategy = strategy; «population_size» = S .«population_size»; seed = S .seed } }
+withStrategy b strategy = let S = b .setup in builderOf (S .«mutation_factor») (S .«crossover_rate») strategy (S .«population_size») (S .seed)
 
 abbrev pub withSeed : DESamplerBuilder → ℕ → DESamplerBuilder
-withSeed b seed =
-    let S = b .setup in
-    record { setup = record { «mutation_factor» = S .«mutation_factor»; «crossover_rate» = S .«crossover_rate»; strategy = S .strategy; «population_size» = S .«population_size»; seed = seed } }
+withSeed b seed = let S = b .setup in builderOf (S .«mutation_factor») (S .«crossover_rate») (S .strategy) (S .«population_size») seed
 
 -- ---- refusals 1, 2, 3: "A set-up refusal hands out no state"
 
