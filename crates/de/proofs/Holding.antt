@@ -5,7 +5,7 @@ use mathlib.Core.Bool.{Bool, true, false, cond}
 use mathlib.Core.List.{List, [], _∷_, map}
 use mathlib.Core.Option.{Option, none, some}
 use native.Mathlib.Omega.{arith}
-use borrow.Author.Tests.{eq-eqb, ne-eqb, lt-ltb, le-ltb}
+use borrow.Author.Tests.{lt-ltb, le-ltb}
 use lib.Dec.{eqb, ltb}
 use lib.ListN.{length, getD, getElem?, take}
 use lib.ListN.{length-take}
@@ -43,7 +43,7 @@ no-parent (m ∷ ms) (suc n) (suc i) h = no-parent ms n i (omega (arith, h))
 -- ---- a sound state
 
 module _ (s : State) (e : soundState s ≡ true) (mm : Measured s) (i k : ℕ) where
-  pub few : Few s
+  few : Few s
   few = Tidy.sound-few s e mm
 
   count-most : parentCount s ≤ s .n
@@ -57,16 +57,12 @@ module _ (s : State) (e : soundState s ≡ true) (mm : Measured s) (i k : ℕ) w
   unfolding heldOf view
   held-is o q = rw (e, q)
 
-  no-slot : parentCount s ≤ i → Nothing ≡ heldOf s i k
-  no-slot h = sym (held-is none (no-parent (s .parents) (parentCount s) i h))
+  -- before the first closing too: then no slot is held
+  pub past-slots : parentCount s ≤ i → Nothing ≡ heldOf s i k
+  past-slots h = sym (held-is none (no-parent (s .parents) (parentCount s) i h))
 
-  pub before-closing : s .closed ≡ 0 → Nothing ≡ heldOf s i k
-  before-closing q =
-      let c : parentCount s ≡ 0 = ap (λ (b : Bool). cond b 0 (s .n)) (eq-eqb (s .closed) 0 q) in
-      no-slot (omega (arith, c))
-
-  pub past-slots : s .n ≤ i → Nothing ≡ heldOf s i k
-  past-slots h = no-slot (omega (arith, count-most, h))
+  pub slots-few : parentCount s ≤ 160
+  slots-few = omega (arith, count-most, few .slots)
 
   dims-many : length (take (s .«n_dims») (s .dims)) ≡ s .«n_dims»
   unfolding laid view
@@ -89,10 +85,9 @@ module _ (s : State) (e : soundState s ≡ true) (mm : Measured s) (i k : ℕ) w
   unfolding view
   decoded p t = rw t
 
-  pub held : (s .closed ≡ 0 → ⊥) → i < s .n → k < s .«n_dims» → (x : ParamValue) → x ≡ decodeOf (take (s .«n_dims») (s .dims)) k (getD (s .parents) i noMember .candidate) → Setting x ≡ heldOf s i k
-  held q h l x w =
-      let count : parentCount s ≡ s .n = ap (λ (b : Bool). cond b 0 (s .n)) (ne-eqb (s .closed) 0 q) in
-      let p : getElem? (map parentOf (take (parentCount s) (s .parents))) i ≡ some (parentOf (getD (s .parents) i noMember)) = parent-at (s .parents) (parentCount s) i (omega (arith, h, count)) (omega (arith, count-most, few .slots, mm .parents)) in
+  pub held : i < parentCount s → k < s .«n_dims» → (x : ParamValue) → x ≡ decodeOf (take (s .«n_dims») (s .dims)) k (getD (s .parents) i noMember .candidate) → Setting x ≡ heldOf s i k
+  held h l x w =
+      let p : getElem? (map parentOf (take (parentCount s) (s .parents))) i ≡ some (parentOf (getD (s .parents) i noMember)) = parent-at (s .parents) (parentCount s) i h (omega (arith, slots-few, mm .parents)) in
       let t : ltb k (length (take (s .«n_dims») (s .dims))) ≡ true = lt-ltb k (length (take (s .«n_dims») (s .dims))) (rw dims-many l) in
       ap Setting w ∙ decoded (parentOf (getD (s .parents) i noMember)) t ∙ sym (held-is (some (parentOf (getD (s .parents) i noMember))) p)
 

@@ -12,6 +12,7 @@ use distribution::Refusal;
 use evolution::Member;
 use state::State;
 use state::sound::is_sound;
+use state::sound::parent_count;
 
 // The best slot, or nothing before the first closing.
 pub enum LookAnswer {
@@ -91,10 +92,8 @@ pub fn slot_setting(state: State, slot: usize, dimension: usize) -> Held
     ensures { λ r. ⌜ (r ≡ heldOf state slot dimension) × (heldRefusal r ≡ unsoundRefusal state) ⌝ }
 {
     if is_sound(state) {
-        if state.closed == 0 {
-            return Held::Nothing;
-        }
-        if state.n <= slot {
+        let held = parent_count(state.closed, state.n);
+        if held <= slot {
             return Held::Nothing;
         }
         if state.n_dims <= dimension {

@@ -5,6 +5,7 @@ use mathlib.Core.Bool.{true}
 use native.Mathlib.Omega.{arith}
 use borrow.Author.Needs.{needs}
 use Rattle.state.specs.Sound.{soundState}
+use Rattle.state.specs.View.{parentCount}
 use Rattle.state.proofs.Measured.{Measured, measured}
 use Rattle.de.proofs.Holding as By
 use Rattle.de.proofs.Numbers.{held-meets}
@@ -24,52 +25,52 @@ sound t = sym (t .before .is-sound .ensures) ∙ t .if1 .taken
 is-sound-requires : tie.Need-is-sound-requires
 is-sound-requires c κs = search needs
 
+parent-count-requires : tie.Need-parent-count-requires
+parent-count-requires c κs = search needs
+
 returns : tie.Need-returns
 returns c =
     let t = c .before .before in
     let b = t .before .before in
-    held-meets (b .args .state) (b .args .slot) (b .args .dimension) _ (By.before-closing (b .args .state) (sound t) (sized b) (b .args .slot) (b .args .dimension) (c .if2 .taken))
+    held-meets (b .args .state) (b .args .slot) (b .args .dimension) _ (By.past-slots (b .args .state) (sound t) (sized b) (b .args .slot) (b .args .dimension) (omega (arith, c .before .parent-count .ensures, c .if2 .taken)))
 
 returns-2 : tie.Need-returns-2
 returns-2 c =
     let t = c .before .before .before .before in
     let b = t .before .before in
-    held-meets (b .args .state) (b .args .slot) (b .args .dimension) _ (By.past-slots (b .args .state) (sound t) (sized b) (b .args .slot) (b .args .dimension) (c .if3 .taken))
+    held-meets (b .args .state) (b .args .slot) (b .args .dimension) _ (By.past-dims (b .args .state) (sound t) (sized b) (b .args .slot) (b .args .dimension) (c .if3 .taken))
 
-returns-3 : tie.Need-returns-3
-returns-3 c =
+-- the slot is one that is held
+below : (c : tie.Else2) → c .before .before .before .before .args .slot < parentCount (c .before .before .before .before .args .state)
+below c = omega (arith, c .before .parent-count .ensures, c .if2 .left)
+
+in-array : (c : tie.After-parents) → c .before .before .before .before .before .before .before .before .args .slot < 160
+in-array c =
     let t = c .before .before .before .before .before .before in
     let b = t .before .before in
-    held-meets (b .args .state) (b .args .slot) (b .args .dimension) _ (By.past-dims (b .args .state) (sound t) (sized b) (b .args .slot) (b .args .dimension) (c .if4 .taken))
-
-below : (c : tie.After-parents) → c .before .before .before .before .before .before .before .before .before .before .args .slot < 160
-below c =
-    let t = c .before .before .before .before .before .before .before .before in
-    let b = t .before .before in
-    let h = By.few (b .args .state) (sound t) (sized b) (b .args .slot) (b .args .dimension) .slots in
-    omega (arith, h, c .before .before .before .before .if3 .left)
+    omega (arith, below (c .before .before .before .before), By.slots-few (b .args .state) (sound t) (sized b) (b .args .slot) (b .args .dimension))
 
 mul-m : tie.Need-mul-m
-mul-m c = let h = below c in omega arith
+mul-m c = let h = in-array c in omega arith
 
 array-copy-out-m : tie.Need-array-copy-out-m
-array-copy-out-m c = below c
+array-copy-out-m c = in-array c
 
 decode-at-requires : tie.Need-decode-at-requires
 decode-at-requires c κs =
-    let t = c .before .before .before .before .before .before .before .before .before .before in
+    let t = c .before .before .before .before .before .before .before .before in
     let b = t .before .before in
-    (c .before .before .before .before .if4 .left, By.few-dims (b .args .state) (sound t) (sized b) (b .args .slot) (b .args .dimension))
+    (c .before .before .before .before .if3 .left, By.few-dims (b .args .state) (sound t) (sized b) (b .args .slot) (b .args .dimension))
+
+returns-3 : tie.Need-returns-3
+returns-3 c =
+    let t = c .before .before .before .before .before .before .before .before .before in
+    let b = t .before .before in
+    held-meets (b .args .state) (b .args .slot) (b .args .dimension) _
+    (By.held (b .args .state) (sound t) (sized b) (b .args .slot) (b .args .dimension) (below (c .before .before .before .before .before .before .before)) (c .before .before .before .before .before .if3 .left) _ (c .decode-at .ensures))
 
 returns-4 : tie.Need-returns-4
 returns-4 c =
-    let t = c .before .before .before .before .before .before .before .before .before .before .before in
-    let b = t .before .before in
-    held-meets (b .args .state) (b .args .slot) (b .args .dimension) _
-    (By.held (b .args .state) (sound t) (sized b) (b .args .slot) (b .args .dimension) (c .before .before .before .before .before .before .before .before .before .if2 .left) (c .before .before .before .before .before .before .before .if3 .left) (c .before .before .before .before .before .if4 .left) _ (c .decode-at .ensures))
-
-returns-5 : tie.Need-returns-5
-returns-5 c =
     let b = c .before .before in
     held-meets (b .args .state) (b .args .slot) (b .args .dimension) _ (By.not-sound (b .args .state) (b .args .slot) (b .args .dimension) (sym (c .before .is-sound .ensures) ∙ c .if1 .left))
 
@@ -78,11 +79,11 @@ slot-setting-spec =
     tie.close
     (tie.spec
     is-sound-requires
+    parent-count-requires
     returns
     returns-2
-    returns-3
     mul-m
     array-copy-out-m
     decode-at-requires
-    returns-4
-    returns-5)
+    returns-3
+    returns-4)
