@@ -7,8 +7,7 @@ use mathlib.Core.Option.{Option, none, some}
 use native.Mathlib.Omega.{arith}
 use borrow.Author.Tests.{lt-ltb, le-ltb}
 use lib.Dec.{eqb, ltb}
-use lib.ListN.{length, getD, getElem?, take}
-use lib.ListN.{length-take}
+use lib.ListN.{length, getD, getElem?, take, length-take}
 use Rattle.distribution.specs.declared.ParamValue.{ParamValue}
 use Rattle.distribution.specs.declared.Refusal.the-variants.{StateNotSound}
 use Rattle.candidates.specs.declared.Candidate.{Candidate}

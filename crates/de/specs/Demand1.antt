@@ -4,7 +4,7 @@
 use Prim.Native.Nat.{ℕ}
 use mathlib.Core.Path.{_≡_}
 use mathlib.Core.Bool.{cond}
-use mathlib.Core.Option.{Option, none, some}
+use mathlib.Core.Option.{Option, some}
 use Rattle.distribution.specs.declared.Refusal.{Refusal}
 use Rattle.ledger.specs.Words.{orElse, refuseIf}
 use Rattle.ledger.specs.Call.{Call, callRefusal}

@@ -6,7 +6,7 @@ use mathlib.Core.Bool.{Bool, true, false, _&&_, _||_, cond, true≢false}
 use lib.Dec.{T, eqb, ltb, eqb→eq, ltb→lt}
 use lib.Ieee.{Float, nan, inf, fin, up, down, below, level, lt, eq, le}
 use Rattle.rng_util.specs.Draws.{unitOf}
-use Rattle.rng_util.specs.Gen.{drawOf, made, Made}
+use Rattle.rng_util.specs.Gen.{drawOf, made}
 use Rattle.rng_util.specs.declared.Gen.{Gen}
 use Rattle.common.specs.declared.Bounds.{Bounds}
 use Rattle.evolution.specs.Mutant.{mutantEntry}

@@ -1,5 +1,5 @@
 -- What can be said of the lines that are read: what `read` brings is said by no contract.
-use Prim.Native.Nat.{ℕ, _≤_}
+use Prim.Native.Nat.{_≤_}
 use Rattle.lines.specs.declared.reader.Line.{Line}
 use Rattle.lines.specs.declared.reader.Line.the-variants.{Whole, Malformed, End, Failed}
 use Rattle.lines.specs.declared.told.Heard.{Heard}
