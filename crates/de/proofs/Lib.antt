@@ -7,7 +7,5 @@ pub mod Accepting
 pub mod Sampling
 pub mod PlainCall
 pub mod Scanned
-pub mod Looking
-pub mod Holding
 pub mod Numbers
 pub mod Refused

@@ -1,8 +1,6 @@
 pub mod Build
 pub mod Answer
 pub mod Sample
-pub mod Look
-pub mod Held
 pub mod Demand1
 pub mod Gathered
 pub mod Ask

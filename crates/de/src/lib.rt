@@ -1,7 +1,6 @@
-// The differential evolution sampler (sampler/de.rs): set-up, sample, look.
+// The differential evolution sampler (sampler/de.rs): set-up and sample.
 pub mod ask;
 pub mod build;
-pub mod look;
 mod plain;
 pub mod sample;
 

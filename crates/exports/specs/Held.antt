@@ -2,9 +2,9 @@
 use Prim.Native.Nat.{ℕ}
 use mathlib.Core.Bool.{cond}
 use Rattle.distribution.specs.Refusals.{refusalNumber}
-use Rattle.de.specs.Held.{heldOf}
-use Rattle.de.specs.declared.look.Held.{Held}
-use Rattle.de.specs.declared.look.Held.the-variants.{Refused, Nothing, Setting}
+use Rattle.slots.specs.Held.{heldOf}
+use Rattle.slots.specs.declared.Held.{Held}
+use Rattle.slots.specs.declared.Held.the-variants.{Refused, Nothing, Setting}
 use Rattle.exports.specs.declared.flat.DeState.{DeState}
 use Rattle.exports.specs.declared.answers.DeAnswer.{DeAnswer}
 use Rattle.exports.specs.Answers.{bareAnswer, settingAnswer}

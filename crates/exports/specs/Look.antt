@@ -3,10 +3,10 @@ use mathlib.Core.Bool.{cond}
 use lib.ListN.{replicate}
 use Rattle.common.specs.Bounds.{zeroF}
 use Rattle.distribution.specs.Refusals.{refusalNumber}
-use Rattle.de.specs.Look.{lookOf}
-use Rattle.de.specs.declared.look.LookAnswer.{LookAnswer}
-use Rattle.de.specs.declared.look.LookAnswer.the-variants.{Refused, Nothing, Best}
-use Rattle.de.specs.declared.look.Looked.{Looked}
+use Rattle.slots.specs.Look.{lookOf}
+use Rattle.slots.specs.declared.LookAnswer.{LookAnswer}
+use Rattle.slots.specs.declared.LookAnswer.the-variants.{Refused, Nothing, Best}
+use Rattle.slots.specs.declared.Looked.{Looked}
 use Rattle.exports.specs.declared.flat.DeState.{DeState}
 use Rattle.exports.specs.declared.look.DeLook.{DeLook}
 use Rattle.exports.specs.declared.look.Head.{Head}

@@ -10,8 +10,8 @@ use crate::flat::open;
 use crate::flat::open_dims;
 use crate::known::known_dims;
 use crate::known::known_state;
-use de::look::Held;
-use de::look::slot_setting;
+use slots::Held;
+use slots::slot_setting;
 
 fn held_answer(held: Held) -> DeAnswer
     ensures { λ r. ⌜ r ≡ heldAnswer held ⌝ }

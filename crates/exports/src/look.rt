@@ -7,9 +7,9 @@ use crate::flat::open;
 use crate::flat::open_dims;
 use crate::known::known_dims;
 use crate::known::known_state;
-use de::look::LookAnswer;
-use de::look::Looked;
-use de::look::look;
+use slots::LookAnswer;
+use slots::Looked;
+use slots::look;
 
 // kind: 0 refused, with document 01's number; 1 nothing yet; 2 best is the best slot, and the first n values are the slots'.
 #[repr(C)]

@@ -18,14 +18,14 @@ use de::Answer;
 use de::Sampled;
 use de::build::Built;
 use de::build::DESamplerBuilder;
-use de::look::LookAnswer;
-use de::look::Looked;
 use distribution::Distribution;
 use evolution::Setup;
 use lines::reader::Cursor;
 use lines::told::first_numbers;
 use lines::told::first_values;
 use script::Command;
+use slots::LookAnswer;
+use slots::Looked;
 use state::State;
 
 // What is kept from question to question, beside the state and the arrays.
@@ -186,7 +186,7 @@ fn look(out: &mut [u8; 8192], run: Run, state: State) -> Run
 {
     if run.accepted {
         let mut r = run;
-        let looked = de::look::look(state);
+        let looked = slots::look(state);
         let sink = r.sink;
         let s = look_row(out, sink, looked);
         r.sink = s;

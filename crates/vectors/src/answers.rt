@@ -2,8 +2,8 @@
 use de::Answer;
 use de::Sampled;
 use de::build::Built;
-use de::look::LookAnswer;
 use distribution::Refusal;
+use slots::LookAnswer;
 use state::State;
 
 // Document 01's number of a refusal.

@@ -5,8 +5,8 @@ use crate::calls::discovered;
 use crate::calls::trials;
 use crate::calls::unit_interval;
 use crate::show::figure;
-use de::look::look;
 use de::sample::sample_slices;
+use slots::look;
 use state::State;
 
 // The trials of these numbers have the slots and these results; trial `next` closes the generation.

@@ -8,7 +8,6 @@ use crate::calls::fresh;
 use crate::calls::unit_interval;
 use crate::show::figure;
 use de::build::DESamplerBuilder;
-use de::look::look;
 use de::sample::sample_slices;
 use distribution::CategoricalDistribution;
 use distribution::Distribution;
@@ -16,6 +15,7 @@ use distribution::FloatDistribution;
 use distribution::FloatStep;
 use distribution::IntDistribution;
 use distribution::IntStep;
+use slots::look;
 use state::State;
 
 // 1 and 2.

@@ -21,8 +21,8 @@ use Rattle.state.specs.declared.State.{State}
 use Rattle.state.proofs.Measured.{Measured}
 use Rattle.state.proofs.Tidy as Tidy
 use Rattle.state.proofs.Whole.{Few}
-use Rattle.de.specs.declared.look.Held.the-variants.{Refused, Nothing, Setting}
-use Rattle.de.specs.Held.{heldBy, heldOf}
+use Rattle.slots.specs.declared.Held.the-variants.{Refused, Nothing, Setting}
+use Rattle.slots.specs.Held.{heldBy, heldOf}
 
 -- ---- the first n members as parents
 

@@ -2,10 +2,10 @@
 use mathlib.Core.Path.{sym, _∙_}
 use borrow.Author.Needs.{needs}
 use Rattle.state.proofs.Measured.{measured}
-use Rattle.de.proofs.Looking as By
-use Rattle.de.proofs.Numbers.{look-meets}
-use Rattle.de.proofs.look.look.Statement.{statement}
-use Rattle.de.proofs.look.look.Tie as tie
+use Rattle.slots.proofs.Looking as By
+use Rattle.slots.proofs.Numbers.{look-meets}
+use Rattle.slots.proofs.look.Statement.{statement}
+use Rattle.slots.proofs.look.Tie as tie
 
 is-sound-requires : tie.Need-is-sound-requires
 is-sound-requires c κs = search needs

@@ -18,9 +18,9 @@ use Rattle.kernel.specs.De.{de}
 use Rattle.state.specs.Sound.{soundState}
 use Rattle.state.specs.View.{view}
 use Rattle.state.specs.declared.State.{State}
-use Rattle.de.specs.declared.look.LookAnswer.{LookAnswer}
-use Rattle.de.specs.declared.look.LookAnswer.the-variants.{Refused, Nothing, Best}
-use Rattle.de.specs.declared.look.Looked.{Looked}
+use Rattle.slots.specs.declared.LookAnswer.{LookAnswer}
+use Rattle.slots.specs.declared.LookAnswer.the-variants.{Refused, Nothing, Best}
+use Rattle.slots.specs.declared.Looked.{Looked}
 
 -- the value of slot i
 abbrev pub valueAt : List Member → ℕ → Float

@@ -23,8 +23,8 @@ use Rattle.state.specs.declared.State.{State}
 use Rattle.state.proofs.Measured.{Measured}
 use Rattle.state.proofs.Tidy as Tidy
 use Rattle.state.proofs.Whole.{Few}
-use Rattle.de.specs.declared.look.LookAnswer.the-variants.{Refused, Nothing, Best}
-use Rattle.de.specs.Look.{valueAt, bare, seen, lookOf}
+use Rattle.slots.specs.declared.LookAnswer.the-variants.{Refused, Nothing, Best}
+use Rattle.slots.specs.Look.{valueAt, bare, seen, lookOf}
 
 same-values : (ms : List Member) → map (λ (m : Member). m .value) ms ≡ Plain.values de (map parentOf ms)
 same-values [] = refl

@@ -1,10 +1,10 @@
-// The look call: what the closings have made.
+// What the slots hold: the look call, and the settings of a slot.
 ghost use mathlib.Core.Path.{_≡_};
 ghost use Prim.Native.Nat.{_≤_};
 ghost use Rattle.rng_util.specs.Many.{padTo, listed};
 ghost use Rattle.common.specs.Bounds.{zeroF};
-ghost use Rattle.de.specs.Look.{bare, valueAt, lookOf, lookRefusal, unsoundRefusal};
-ghost use Rattle.de.specs.Held.{heldOf, heldRefusal};
+ghost use Rattle.slots.specs.Look.{bare, valueAt, lookOf, lookRefusal, unsoundRefusal};
+ghost use Rattle.slots.specs.Held.{heldOf, heldRefusal};
 use assignment::decode_at;
 use distribution::DimIdx;
 use distribution::ParamValue;

@@ -4,9 +4,9 @@ use mathlib.Core.Path.{refl}
 use native.Mathlib.Omega.{arith}
 use Rattle.candidates.proofs.Fill.{Fill, fill-first, fill-again, fill-last}
 use Rattle.common.specs.Bounds.{zeroF}
-use Rattle.de.specs.Look.{valueAt}
-use Rattle.de.proofs.look.slot_values.Statement.{statement}
-use Rattle.de.proofs.look.slot_values.Tie as tie
+use Rattle.slots.specs.Look.{valueAt}
+use Rattle.slots.proofs.slot_values.Statement.{statement}
+use Rattle.slots.proofs.slot_values.Tie as tie
 
 abbrev Inv-loop : tie.InvT-loop
 Inv-loop n parents values₀ i₀ values i = (i ≤ n) × Fill 160 zeroF (valueAt parents) n values i

@@ -7,10 +7,10 @@ use borrow.Author.Needs.{needs}
 use Rattle.state.specs.Sound.{soundState}
 use Rattle.state.specs.View.{parentCount}
 use Rattle.state.proofs.Measured.{Measured, measured}
-use Rattle.de.proofs.Holding as By
-use Rattle.de.proofs.Numbers.{held-meets}
-use Rattle.de.proofs.look.slot_setting.Statement.{statement}
-use Rattle.de.proofs.look.slot_setting.Tie as tie
+use Rattle.slots.proofs.Holding as By
+use Rattle.slots.proofs.Numbers.{held-meets}
+use Rattle.slots.proofs.slot_setting.Statement.{statement}
+use Rattle.slots.proofs.slot_setting.Tie as tie
 
 -- ---- what is known where the state is sound
 

@@ -13,8 +13,8 @@ use Rattle.kernel.specs.De.{de}
 use Rattle.state.specs.Sound.{soundState}
 use Rattle.state.specs.View.{view}
 use Rattle.state.specs.declared.State.{State}
-use Rattle.de.specs.declared.look.Held.{Held}
-use Rattle.de.specs.declared.look.Held.the-variants.{Refused, Nothing, Setting}
+use Rattle.slots.specs.declared.Held.{Held}
+use Rattle.slots.specs.declared.Held.the-variants.{Refused, Nothing, Setting}
 
 -- a slot's parent in dimension k, "decoded by the stored distribution"; there is no slot before the first closing
 abbrev pub heldBy : Plain.State de → ℕ → Option (Parent Candidate) → Held

@@ -1,0 +1,3 @@
+pub mod Looking
+pub mod Holding
+pub mod Numbers
