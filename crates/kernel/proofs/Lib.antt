@@ -4,3 +4,5 @@ pub mod Fit
 pub mod Random
 pub mod Kernel
 pub mod Link
+pub mod Drawn
+pub mod Ceiling
