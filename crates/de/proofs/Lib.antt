@@ -9,3 +9,7 @@ pub mod PlainCall
 pub mod Scanned
 pub mod Numbers
 pub mod Refused
+pub mod DrawCeiling
+pub mod Ceilings
+pub mod CallCeiling
+pub mod CeilingMet

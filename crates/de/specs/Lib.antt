@@ -8,3 +8,4 @@ pub mod Whole
 pub mod Program
 pub mod Refusing
 pub mod Plainly
+pub mod Ceiling

@@ -1,6 +1,7 @@
 // The differential evolution sampler (sampler/de.rs): set-up and sample.
 pub mod ask;
 pub mod build;
+pub mod ceiling;
 mod plain;
 pub mod sample;
 
