@@ -46,7 +46,7 @@ setting-read (P.Float x) draws = refl
 setting-read (P.Int z) draws = refl
 setting-read (P.Categorical k) draws = refl
 
-setting-draws : (x : ParamValue) (draws : ℕ) → (settingAnswer x draws) .draws ≡ draws
+pub setting-draws : (x : ParamValue) (draws : ℕ) → (settingAnswer x draws) .draws ≡ draws
 setting-draws (P.Float x) draws = refl
 setting-draws (P.Int z) draws = refl
 setting-draws (P.Categorical k) draws = refl

@@ -38,7 +38,7 @@ use Rattle.exports.specs.Answers.{bareAnswer, unknown, answered, settled
 
 -- ---- the parts
 
-strategy-back : (t : DEStrategy) → strategyOf (flatStrategy t) ≡ t
+pub strategy-back : (t : DEStrategy) → strategyOf (flatStrategy t) ≡ t
 strategy-back Rand1 = refl
 strategy-back Best1 = refl
 strategy-back CurrentToBest1 = refl
@@ -92,7 +92,7 @@ bit-back false = refl
 
 -- ---- the same numbers are known
 
-strategy-known : (t : DEStrategy) → leb (flatStrategy t) 2 ≡ true
+pub strategy-known : (t : DEStrategy) → leb (flatStrategy t) 2 ≡ true
 strategy-known Rand1 = refl
 strategy-known Best1 = refl
 strategy-known CurrentToBest1 = refl

@@ -2,3 +2,4 @@ pub mod Dims
 pub mod Stored
 pub mod Edge
 pub mod Demand
+pub mod Ceiling

@@ -7,3 +7,4 @@ pub mod Held
 pub mod Internal
 pub mod Marks
 pub mod Program
+pub mod Ceiling

@@ -65,7 +65,7 @@ pub struct DeState {
     pub idle: u32,
 }
 
-fn open_strategy(strategy: u64) -> DEStrategy
+pub fn open_strategy(strategy: u64) -> DEStrategy
     ensures { λ r. ⌜ r ≡ strategyOf strategy ⌝ }
 {
     if strategy == 0 {

@@ -6,6 +6,7 @@ ghost use Rattle.exports.specs.Answers.{sampleAnswer, sampleState};
 ghost use Rattle.exports.specs.Look.{lookAt};
 ghost use Rattle.exports.specs.Held.{heldAt};
 ghost use Rattle.exports.specs.Internal.{internalOf};
+ghost use Rattle.exports.specs.Ceiling.{ceilingAt};
 ghost use Rattle.exports.specs.Marks.{marks};
 use answers::DeAnswer;
 use answers::DeCall;
@@ -13,10 +14,12 @@ use answers::open_call;
 use answers::settle;
 use build::fresh;
 use build::settle_setup;
+use de::ceiling::draw_ceiling;
 use de::sample::sample;
 use flat::DeDistribution;
 use flat::DeSetup;
 use flat::DeState;
+use flat::open_strategy;
 use flatten::flatten;
 use held::held_at;
 use history::CompletedTrial;
@@ -91,6 +94,18 @@ pub extern "C" fn de_to_internal(distribution: DeDistribution, setting: DeSettin
     ensures { λ r. ⌜ r ≡ internalOf distribution setting ⌝ }
 {
     internal_of(distribution, setting)
+}
+
+// The most that a sample call draws that leaves n, n_dims and the set-up's strategy in the state. No state that is sound has
+// another strategy, and there it is 0.
+#[no_mangle]
+pub extern "C" fn de_draw_ceiling(n: u64, n_dims: u64, strategy: u64) -> u64
+    ensures { λ r. ⌜ r ≡ ceilingAt n «n_dims» strategy ⌝ }
+{
+    if strategy > 2 {
+        return 0;
+    }
+    draw_ceiling(n, n_dims, open_strategy(strategy))
 }
 
 // The layout that the library has.
