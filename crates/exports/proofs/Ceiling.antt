@@ -13,10 +13,11 @@ use Rattle.state.proofs.Flags.{true-and}
 use Rattle.de.specs.Ceiling.{drawCeiling, ceilingFor, mostDraws}
 use Rattle.de.proofs.DrawCeiling.{draw-ceiling}
 use Rattle.de.proofs.CallCeiling.{call-ceiling, never-more, ahead-ceiling}
-use Rattle.exports.specs.declared.flat.DeState.{DeState}
-use Rattle.exports.specs.Flat.{setupOf, distributionOf, flatSetup, openWith, openOf, flatOf}
-use Rattle.exports.specs.Known.{knownSetup, knownDistribution, knownWith, knownState}
-use Rattle.exports.specs.Answers.{settledOf, sampledFrom, sampleAnswer, sampleState}
+use Rattle.edge.specs.declared.flat.DeState.{DeState}
+use Rattle.edge.specs.Flat.{setupOf, distributionOf, flatSetup, openWith, openOf, flatOf}
+use Rattle.edge.specs.Known.{knownSetup, knownDistribution, knownWith, knownState}
+use Rattle.edge.specs.Answers.{settledOf}
+use Rattle.exports.specs.Calls.{sampledFrom, sampleAnswer, sampleState}
 use Rattle.exports.specs.Ceiling.{ceilingAt}
 use Rattle.exports.specs.Program.{Sent, answerTo, leaves}
 use Rattle.exports.proofs.Edge.{strategy-back, strategy-known, lossless}

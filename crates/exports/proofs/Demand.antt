@@ -29,13 +29,14 @@ use Rattle.de.specs.Build.{builtBy, builtOf, freshState}
 use Rattle.de.specs.Program.{program}
 use Rattle.de.specs.Sample.{sampleOf}
 use Rattle.de.proofs.Demand as Of
-use Rattle.exports.specs.declared.flat.DeSetup.{DeSetup}
-use Rattle.exports.specs.declared.flat.DeState.{DeState}
-use Rattle.exports.specs.declared.answers.DeAnswer.{DeAnswer}
-use Rattle.exports.specs.Flat.{distributionOf, setupOf, openOf, flatOf}
-use Rattle.exports.specs.Known.{knownSetup}
-use Rattle.exports.specs.Answers.{bareAnswer, settingAnswer, answered, sampleAnswer, sampleState}
-use Rattle.exports.specs.Build.{builtAnswer, settledSetup, freshFlat, newState}
+use Rattle.edge.specs.declared.flat.DeSetup.{DeSetup}
+use Rattle.edge.specs.declared.flat.DeState.{DeState}
+use Rattle.edge.specs.declared.answers.DeAnswer.{DeAnswer}
+use Rattle.edge.specs.Flat.{distributionOf, setupOf, openOf, flatOf}
+use Rattle.edge.specs.Known.{knownSetup}
+use Rattle.edge.specs.Answers.{bareAnswer, settingAnswer, answered}
+use Rattle.exports.specs.Calls.{sampleAnswer, sampleState, newState}
+use Rattle.edge.specs.Build.{builtAnswer, settledSetup, freshFlat}
 use Rattle.exports.specs.Program.{Sent, isKnown, meant, meantBy, readAnswer, called, spelled, library, readsFrom, LibraryDemand3}
 use Rattle.exports.proofs.Edge.{distribution-back, distribution-known, lossless, heldAfter, one-answer, one-state, same-answer, same-state, unknown-answer, unknown-state}
 

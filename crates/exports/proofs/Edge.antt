@@ -29,12 +29,13 @@ use Rattle.state.specs.declared.State.{State}
 use Rattle.state.proofs.Flags.{and-true}
 use Rattle.state.proofs.Laid.{back}
 use Rattle.de.specs.Sample.{sampleOf}
-use Rattle.exports.specs.declared.answers.DeCall.{DeCall}
-use Rattle.exports.specs.declared.flat.DeState.{DeState}
-use Rattle.exports.specs.Flat.{bit, strategyOf, flatStrategy, sizeOf, flatSized, flatSize, setupOf, flatSetup, floatBy, intBy, distributionOf, flatDistribution, dimOf, flatDim, firstOf, flatNamed, flatFirst, openWith, openOf, flatOf}
-use Rattle.exports.specs.Known.{knownSetup, knownDistribution, knownWith, knownState}
-use Rattle.exports.specs.declared.answers.Settled.{Settled}
-use Rattle.exports.specs.Answers.{bareAnswer, unknown, answered, settledOf, sampledFrom, settledSample, sampleAnswer, sampleState}
+use Rattle.edge.specs.declared.answers.DeCall.{DeCall}
+use Rattle.edge.specs.declared.flat.DeState.{DeState}
+use Rattle.edge.specs.Flat.{bit, strategyOf, flatStrategy, sizeOf, flatSized, flatSize, setupOf, flatSetup, floatBy, intBy, distributionOf, flatDistribution, dimOf, flatDim, firstOf, flatNamed, flatFirst, openWith, openOf, flatOf}
+use Rattle.edge.specs.Known.{knownSetup, knownDistribution, knownWith, knownState}
+use Rattle.edge.specs.declared.answers.Settled.{Settled}
+use Rattle.edge.specs.Answers.{bareAnswer, unknown, answered, settledOf}
+use Rattle.exports.specs.Calls.{sampledFrom, settledSample, sampleAnswer, sampleState}
 
 -- ---- the parts
 

@@ -1,4 +1,3 @@
-pub mod Dims
 pub mod Stored
 pub mod Edge
 pub mod Demand

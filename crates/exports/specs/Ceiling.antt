@@ -3,7 +3,7 @@ use Prim.Native.Nat.{ℕ}
 use mathlib.Core.Bool.{cond}
 use lib.Dec.{leb}
 use Rattle.de.specs.Ceiling.{ceilingFor}
-use Rattle.exports.specs.Flat.{strategyOf}
+use Rattle.edge.specs.Flat.{strategyOf}
 
 -- by a state's `n`, `n_dims` and strategy; a state whose strategy names no case is refused, and a refusal "counts zero draws"
 unfoldable pub ceilingAt : ℕ → ℕ → ℕ → ℕ

@@ -1,10 +1,3 @@
-pub mod Flat
-pub mod Known
-pub mod Answers
-pub mod Build
-pub mod Look
-pub mod Held
-pub mod Internal
-pub mod Marks
+pub mod Calls
 pub mod Program
 pub mod Ceiling

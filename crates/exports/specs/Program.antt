@@ -15,14 +15,14 @@ use Rattle.ledger.specs.Claim.{Demand3}
 use Rattle.kernel.specs.De.{de}
 use Rattle.state.specs.View.{view}
 use Rattle.de.specs.Sample.{callOf}
-use Rattle.exports.specs.declared.flat.DeSetup.{DeSetup}
-use Rattle.exports.specs.declared.flat.DeState.{DeState}
-use Rattle.exports.specs.declared.answers.DeAnswer.{DeAnswer}
-use Rattle.exports.specs.declared.answers.DeCall.{DeCall}
-use Rattle.exports.specs.Flat.{distributionOf, setupOf, openOf, flatDim}
-use Rattle.exports.specs.Known.{knownDistribution}
-use Rattle.exports.specs.Answers.{bareAnswer, sampleAnswer, sampleState}
-use Rattle.exports.specs.Build.{newState}
+use Rattle.edge.specs.declared.flat.DeSetup.{DeSetup}
+use Rattle.edge.specs.declared.flat.DeState.{DeState}
+use Rattle.edge.specs.declared.answers.DeAnswer.{DeAnswer}
+use Rattle.edge.specs.declared.answers.DeCall.{DeCall}
+use Rattle.edge.specs.Flat.{distributionOf, setupOf, openOf, flatDim}
+use Rattle.edge.specs.Known.{knownDistribution}
+use Rattle.edge.specs.Answers.{bareAnswer}
+use Rattle.exports.specs.Calls.{sampleAnswer, sampleState, newState}
 
 -- ---- a call that a C caller sends: any numbers in its fields, and a history
 

@@ -1,46 +1,34 @@
-// The sampler for callers in C and Rust: `rt staticlib exports` writes the library. Every struct is laid out as C lays it out.
+// The sampler for callers in C and Rust: `rt staticlib exports` writes the library. The structs that cross are those of `edge`.
 // A call or set-up with a number that names no case answers kind 4; a state with one is not sound, and that is refusal 0.
 ghost use mathlib.Core.Path.{_≡_};
-ghost use Rattle.exports.specs.Build.{newAnswer, newState};
-ghost use Rattle.exports.specs.Answers.{sampleAnswer, sampleState};
-ghost use Rattle.exports.specs.Look.{lookAt};
-ghost use Rattle.exports.specs.Held.{heldAt};
-ghost use Rattle.exports.specs.Internal.{internalOf};
+ghost use Rattle.exports.specs.Calls.{newAnswer, newState, sampleAnswer, sampleState};
+ghost use Rattle.edge.specs.Look.{lookAt};
+ghost use Rattle.edge.specs.Held.{heldAt};
+ghost use Rattle.edge.specs.Internal.{internalOf};
 ghost use Rattle.exports.specs.Ceiling.{ceilingAt};
-ghost use Rattle.exports.specs.Marks.{marks};
-use answers::DeAnswer;
-use answers::DeCall;
-use answers::open_call;
-use answers::settle;
-use build::fresh;
-use build::settle_setup;
+ghost use Rattle.layout.specs.Marks.{marks};
 use de::ceiling::draw_ceiling;
 use de::sample::sample;
-use flat::DeDistribution;
-use flat::DeSetup;
-use flat::DeState;
-use flat::open_strategy;
-use flatten::flatten;
-use held::held_at;
+use edge::answers::DeAnswer;
+use edge::answers::DeCall;
+use edge::answers::open_call;
+use edge::answers::settle;
+use edge::build::fresh;
+use edge::build::settle_setup;
+use edge::flat::DeDistribution;
+use edge::flat::DeSetup;
+use edge::flat::DeState;
+use edge::flat::open_strategy;
+use edge::flatten::flatten;
+use edge::held::held_at;
+use edge::internal::DeInternal;
+use edge::internal::DeSetting;
+use edge::internal::internal_of;
+use edge::look::DeLook;
+use edge::look::look_at;
 use history::CompletedTrial;
-use internal::DeInternal;
-use internal::DeSetting;
-use internal::internal_of;
-use look::DeLook;
-use look::look_at;
-use marks::DeMarks;
-use marks::marked;
-
-pub mod answers;
-pub mod build;
-pub mod flat;
-pub mod flatten;
-pub mod held;
-pub mod internal;
-pub mod known;
-pub mod look;
-pub mod marks;
-pub mod numbered;
+use layout::marks::DeMarks;
+use layout::marks::marked;
 
 // A state from a set-up. What is lent is written only where the set-up is accepted, and never read.
 #[no_mangle]
@@ -96,7 +84,7 @@ pub extern "C" fn de_to_internal(distribution: DeDistribution, setting: DeSettin
     internal_of(distribution, setting)
 }
 
-// The most that a sample call draws that leaves n, n_dims and the set-up's strategy in the state. No state that is sound has
+// What a sample call draws at most that leaves n, n_dims and the set-up's strategy in the state. No state that is sound has
 // another strategy, and there it is 0.
 #[no_mangle]
 pub extern "C" fn de_draw_ceiling(n: u64, n_dims: u64, strategy: u64) -> u64

@@ -32,17 +32,17 @@ use denote.Triple.Table.{entered, cited}
 use denote.Triple.Walked.{says, Stays, stay-none-ref, walkOf, Walks, ends-at, walked, goes-none-ref, walk-meets}
 use denote.Exit.{yes}
 use Rattle.history.proofs.Called.{returned}
-use Rattle.exports.specs.Look.{lookAt}
-use Rattle.exports.specs.declared.flat.DeState.{DeState}
-use Rattle.exports.specs.declared.look.DeLook.{DeLook}
-use Rattle.exports.proofs.flat.DeState as F
-use Rattle.exports.proofs.flat.DeState.Laws as F′
-use Rattle.exports.proofs.look.DeLook as O
-use Rattle.exports.proofs.look.DeLook.Laws as O′
-use Rattle.exports.proofs.look.look_at as look-at
-use Rattle.exports.proofs.look.look_at.Symbol as look-def
-use Rattle.exports.proofs.look.look_at.Symbol.{name as #exports·look·look-at}
-use Rattle.exports.proofs.look.look_at.Met as look-thm
+use Rattle.edge.specs.Look.{lookAt}
+use Rattle.edge.specs.declared.flat.DeState.{DeState}
+use Rattle.edge.specs.declared.look.DeLook.{DeLook}
+use Rattle.edge.proofs.flat.DeState as F
+use Rattle.edge.proofs.flat.DeState.Laws as F′
+use Rattle.edge.proofs.look.DeLook as O
+use Rattle.edge.proofs.look.DeLook.Laws as O′
+use Rattle.edge.proofs.look.look_at as look-at
+use Rattle.edge.proofs.look.look_at.Symbol as look-def
+use Rattle.edge.proofs.look.look_at.Symbol.{name as #edge·look·look-at}
+use Rattle.edge.proofs.look.look_at.Met as look-thm
 use Rattle.exports.proofs.de_look.Key.{name as #exports·de-look}
 use Rattle.exports.proofs.de_look as f
 use Rattle.exports.proofs.de_look.Code as code
@@ -86,7 +86,7 @@ module _ {M : Type 1} (𝓤 : URA M) (H : Heap 𝓤) (A : Atoms 𝓤) (W : Given
     look-pre : ent 𝓤 (emp 𝓤) (LookAt 𝓤 H A at-mem run .pre to-look)
     look-pre = qed W [] ∵ nothing ! $ owned ! F.the-row (Is F.the-row) (LL.makes F.the-type F′.the-plain 𝓤 H A) s (ms ∷ []) iss $ fjoin ! $ nothing ! $ join ! $ frame ! $ done !
 
-  module _ (C : Calls 𝓤 H) (Λ : Loops 𝓤 H) (fm : FmC 𝓤 H (W .laws) C) (known : Triple 𝓤 (C #exports·look·look-at) (LookAt 𝓤 H A at-mem run)) where
+  module _ (C : Calls 𝓤 H) (Λ : Loops 𝓤 H) (fm : FmC 𝓤 H (W .laws) C) (known : Triple 𝓤 (C #edge·look·look-at) (LookAt 𝓤 H A at-mem run)) where
     walk : ent 𝓤 (onEntry 𝓤 H A f.signature (κ, tt) (q, tt) x at) (WpFn 𝓤 H C Λ code.function (vptr b o ∷ []) Post)
     walk =
         qed W ((‵ (flft κ q) ⊛ ‵ ftrue) ∷ ‵ (owns (ShrRef (named 0) κ F.the-row ∷ []) x at) ∷ []) ∵ enter ! C Λ code.function (vptr b o ∷ []) _ $
@@ -104,12 +104,12 @@ module _ {M : Type 1} (𝓤 : URA M) (H : Heap 𝓤) (A : Atoms 𝓤) (W : Given
         returns ! (look ! 9 refl) $ forget ! 5 refl $ forget ! 7 refl $ forget ! 9 refl $ move ! (9 ∷ 10 ∷ []) $ free1 ! $ move ! (7 ∷ 8 ∷ []) $ free1 ! $ move ! (5 ∷ 6 ∷ []) $ free1 ! $ free0 ! $ keep ! (0 ∷ 3 ∷ 1 ∷ []) $ by ! (exits r v is e))))))))
 
 module _ {M : Type 1} (𝓤 : URA M) (H : Heap 𝓤) (A : Atoms 𝓤) (W : Given 𝓤 H A) (at-mem : Memory → SProp 𝓤) (run : Routine → Fun 𝓤) where
-  de-look-walks : (C : Calls 𝓤 H) (Λ : Loops 𝓤 H) → FmC 𝓤 H (W .laws) C → Triple 𝓤 (C #exports·look·look-at) (LookAt 𝓤 H A at-mem run) → Walks 𝓤 H A f.ended stayed (WpFn 𝓤 H C Λ code.function) (f.clauses 𝓤 H A at-mem run)
+  de-look-walks : (C : Calls 𝓤 H) (Λ : Loops 𝓤 H) → FmC 𝓤 H (W .laws) C → Triple 𝓤 (C #edge·look·look-at) (LookAt 𝓤 H A at-mem run) → Walks 𝓤 H A f.ended stayed (WpFn 𝓤 H C Λ code.function) (f.clauses 𝓤 H A at-mem run)
   de-look-walks C Λ fm k = walked 𝓤 H A f.ended stayed (f.clauses 𝓤 H A at-mem run) (WpFn 𝓤 H C Λ code.function) (λ κs. (ptr-vals, tt)) (λ κs. (shr-tells (named 0) (κs .0) F.the-row, tt))
       (λ κs qs bounds a _ are. via 𝓤 _ (fst∗ 𝓤 _ (emp 𝓤)) (walk 𝓤 H A W at-mem run (κs .0) (qs .0) (a .0 .ptr .0) (a .0 .ptr .1) (a .0 .name) (a .0 .now) C Λ fm k))
 
 de-look-meets : {M : Type 1} (𝓤 : URA M) (H : Heap 𝓤) (A : Atoms 𝓤) → Given 𝓤 H A → (at-mem : Memory → SProp 𝓤) (run : Routine → Fun 𝓤) (𝓣 : Tables 𝓤 H)
-    → Triple 𝓤 (𝓣 .C #exports·look·look-at) (LookAt 𝓤 H A at-mem run) → Meets 𝓤 H A f.signature (WpFn 𝓤 H (𝓣 .C) (𝓣 .Λ) code.function) (f.spec 𝓤 H A at-mem run)
+    → Triple 𝓤 (𝓣 .C #edge·look·look-at) (LookAt 𝓤 H A at-mem run) → Meets 𝓤 H A f.signature (WpFn 𝓤 H (𝓣 .C) (𝓣 .Λ) code.function) (f.spec 𝓤 H A at-mem run)
 de-look-meets 𝓤 H A W at-mem run 𝓣 k = walk-meets 𝓤 H A f.ended stayed W (goes-none-ref 𝓤 H A W 1 (0 ∷ []) tt (plain (λ _. F.the-row)) yes, tt)
     (f.clauses 𝓤 H A at-mem run) (WpFn 𝓤 H (𝓣 .C) (𝓣 .Λ) code.function) (WpFn-mono 𝓤 H (W .laws) 𝓣 code.function) (de-look-walks 𝓤 H A W at-mem run (𝓣 .C) (𝓣 .Λ) (fmOf 𝓤 H (W .laws) 𝓣) k)
 
@@ -119,4 +119,4 @@ de-look-spec 𝓤 H 𝓜 𝓖 𝓡 =
     entered 𝓤 H (tripleOf 𝓤 H (𝓖 .A) f.signature (f.spec 𝓤 H (𝓖 .A) (𝓜 .mem) (𝓡 .run)))
     (tables 𝓤 H 𝓜 𝓡 code.env .C) (tables 𝓤 H 𝓜 𝓡 code.env .Λ) #exports·de-look code.function (code.unfolded 𝓤 H 𝓜 𝓡)
     (de-look-meets 𝓤 H (𝓖 .A) (givenOf 𝓤 H 𝓜 𝓖) (𝓜 .mem) (𝓡 .run) (tablesOf 𝓤 H 𝓜 (tables 𝓤 H 𝓜 𝓡 code.env))
-    (cited 𝓤 H (LookAt 𝓤 H (𝓖 .A) (𝓜 .mem) (𝓡 .run)) 𝓜 𝓡 code.env #exports·look·look-at look-def.routine code.calls-exports·look·look-at (look-thm.met 𝓤 H 𝓜 𝓖 𝓡)))
+    (cited 𝓤 H (LookAt 𝓤 H (𝓖 .A) (𝓜 .mem) (𝓡 .run)) 𝓜 𝓡 code.env #edge·look·look-at look-def.routine code.calls-edge·look·look-at (look-thm.met 𝓤 H 𝓜 𝓖 𝓡)))

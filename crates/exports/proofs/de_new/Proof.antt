@@ -38,28 +38,29 @@ use denote.Triple.Table.{entered, cited}
 use denote.Triple.Walked.{says, Stays, stay-ref, stay-none, walkOf, Walks, ends-at, walked, goes-ref, goes-none, walk-meets}
 use denote.Exit.{yes}
 use Rattle.history.proofs.Called.{returned}
-use Rattle.exports.specs.Build.{settledSetup, freshFlat, newAnswer, newState}
-use Rattle.exports.specs.declared.flat.DeSetup.{DeSetup}
-use Rattle.exports.specs.declared.flat.DeState.{DeState}
-use Rattle.exports.specs.declared.answers.DeAnswer.{DeAnswer}
-use Rattle.exports.specs.declared.answers.Settled.{Settled}
-use Rattle.exports.proofs.flat.DeState as F
-use Rattle.exports.proofs.flat.DeState.Laws as F′
-use Rattle.exports.proofs.flat.DeSetup as Q
-use Rattle.exports.proofs.flat.DeSetup.Laws as Q′
-use Rattle.exports.proofs.answers.DeAnswer as O
-use Rattle.exports.proofs.answers.DeAnswer.Laws as O′
-use Rattle.exports.proofs.answers.Settled as P
-use Rattle.exports.proofs.answers.Settled.Laws as P′
+use Rattle.edge.specs.Build.{settledSetup, freshFlat}
+use Rattle.exports.specs.Calls.{newAnswer, newState}
+use Rattle.edge.specs.declared.flat.DeSetup.{DeSetup}
+use Rattle.edge.specs.declared.flat.DeState.{DeState}
+use Rattle.edge.specs.declared.answers.DeAnswer.{DeAnswer}
+use Rattle.edge.specs.declared.answers.Settled.{Settled}
+use Rattle.edge.proofs.flat.DeState as F
+use Rattle.edge.proofs.flat.DeState.Laws as F′
+use Rattle.edge.proofs.flat.DeSetup as Q
+use Rattle.edge.proofs.flat.DeSetup.Laws as Q′
+use Rattle.edge.proofs.answers.DeAnswer as O
+use Rattle.edge.proofs.answers.DeAnswer.Laws as O′
+use Rattle.edge.proofs.answers.Settled as P
+use Rattle.edge.proofs.answers.Settled.Laws as P′
 use Rattle.exports.proofs.Stored.{stored, kept}
-use Rattle.exports.proofs.build.settle_setup as settle
-use Rattle.exports.proofs.build.settle_setup.Symbol as settle-def
-use Rattle.exports.proofs.build.settle_setup.Symbol.{name as #exports·build·settle-setup}
-use Rattle.exports.proofs.build.settle_setup.Met as settle-thm
-use Rattle.exports.proofs.build.fresh as fresh
-use Rattle.exports.proofs.build.fresh.Symbol as fresh-def
-use Rattle.exports.proofs.build.fresh.Symbol.{name as #exports·build·fresh}
-use Rattle.exports.proofs.build.fresh.Met as fresh-thm
+use Rattle.edge.proofs.build.settle_setup as settle
+use Rattle.edge.proofs.build.settle_setup.Symbol as settle-def
+use Rattle.edge.proofs.build.settle_setup.Symbol.{name as #edge·build·settle-setup}
+use Rattle.edge.proofs.build.settle_setup.Met as settle-thm
+use Rattle.edge.proofs.build.fresh as fresh
+use Rattle.edge.proofs.build.fresh.Symbol as fresh-def
+use Rattle.edge.proofs.build.fresh.Symbol.{name as #edge·build·fresh}
+use Rattle.edge.proofs.build.fresh.Met as fresh-thm
 use Rattle.exports.proofs.de_new.Key.{name as #exports·de-new}
 use Rattle.exports.proofs.de_new as f
 use Rattle.exports.proofs.de_new.Code as code
@@ -133,7 +134,7 @@ module _ {M : Type 1} (𝓤 : URA M) (H : Heap 𝓤) (A : Atoms 𝓤) (W : Given
     unfolding newState
     as-it-was p e h = kept (freshFlat c) s h (ap (λ (z : Settled). z .stores) e) refl
 
-    module _ (C : Calls 𝓤 H) (Λ : Loops 𝓤 H) (fm : FmC 𝓤 H (W .laws) C) (known-settle : Triple 𝓤 (C #exports·build·settle-setup) (Settle 𝓤 H A at-mem run)) (known-fresh : Triple 𝓤 (C #exports·build·fresh) (Fresh 𝓤 H A at-mem run)) where
+    module _ (C : Calls 𝓤 H) (Λ : Loops 𝓤 H) (fm : FmC 𝓤 H (W .laws) C) (known-settle : Triple 𝓤 (C #edge·build·settle-setup) (Settle 𝓤 H A at-mem run)) (known-fresh : Triple 𝓤 (C #edge·build·fresh) (Fresh 𝓤 H A at-mem run)) where
       walk : ent 𝓤 (onEntry 𝓤 H A f.signature (κ, tt) (q, tt) x at) (WpFn 𝓤 H C Λ code.function (vptr b o ∷ mc ∷ []) Post)
       walk =
           qed W ((‵ (flft κ q) ⊛ ‵ ftrue) ∷ ‵ (owns (MutRef (named 0) κ F.the-row ∷ Q.the-row ∷ []) x at) ∷ []) ∵ split ! $
@@ -173,13 +174,13 @@ module _ {M : Type 1} (𝓤 : URA M) (H : Heap 𝓤) (A : Atoms 𝓤) (W : Given
           keep ! (0 ∷ 1 ∷ 2 ∷ []) $ by ! (exits s (p .answer) _ (LL.owed P.the-type P′.the-laws p (v ∷ []) is .1 .0) (gone p e) (as-it-was p e no)))))))))))
 
 module _ {M : Type 1} (𝓤 : URA M) (H : Heap 𝓤) (A : Atoms 𝓤) (W : Given 𝓤 H A) (at-mem : Memory → SProp 𝓤) (run : Routine → Fun 𝓤) where
-  de-new-walks : (C : Calls 𝓤 H) (Λ : Loops 𝓤 H) → FmC 𝓤 H (W .laws) C → Triple 𝓤 (C #exports·build·settle-setup) (Settle 𝓤 H A at-mem run) → Triple 𝓤 (C #exports·build·fresh) (Fresh 𝓤 H A at-mem run)
+  de-new-walks : (C : Calls 𝓤 H) (Λ : Loops 𝓤 H) → FmC 𝓤 H (W .laws) C → Triple 𝓤 (C #edge·build·settle-setup) (Settle 𝓤 H A at-mem run) → Triple 𝓤 (C #edge·build·fresh) (Fresh 𝓤 H A at-mem run)
       → Walks 𝓤 H A f.ended stayed (WpFn 𝓤 H C Λ code.function) (f.clauses 𝓤 H A at-mem run)
   de-new-walks C Λ fm k₁ k₂ = walked 𝓤 H A f.ended stayed (f.clauses 𝓤 H A at-mem run) (WpFn 𝓤 H C Λ code.function) (λ κs. (ptr-vals, (LL.vals Q.the-type Q′.the-laws, tt))) (λ κs. (mut-tells (named 0) (κs .0) F.the-row, (LL.tells Q.the-type Q′.the-laws, tt)))
       (λ κs qs bounds a _ are. via 𝓤 _ (fst∗ 𝓤 _ (emp 𝓤)) (walk 𝓤 H A W at-mem run (κs .0) (qs .0) (a .0 .ptr .0) (a .0 .ptr .1) (a .0 .name) (a .0 .now) (a .1 .0) (are .1 .0) C Λ fm k₁ k₂))
 
 de-new-meets : {M : Type 1} (𝓤 : URA M) (H : Heap 𝓤) (A : Atoms 𝓤) → Given 𝓤 H A → (at-mem : Memory → SProp 𝓤) (run : Routine → Fun 𝓤) (𝓣 : Tables 𝓤 H)
-    → Triple 𝓤 (𝓣 .C #exports·build·settle-setup) (Settle 𝓤 H A at-mem run) → Triple 𝓤 (𝓣 .C #exports·build·fresh) (Fresh 𝓤 H A at-mem run) → Meets 𝓤 H A f.signature (WpFn 𝓤 H (𝓣 .C) (𝓣 .Λ) code.function) (f.spec 𝓤 H A at-mem run)
+    → Triple 𝓤 (𝓣 .C #edge·build·settle-setup) (Settle 𝓤 H A at-mem run) → Triple 𝓤 (𝓣 .C #edge·build·fresh) (Fresh 𝓤 H A at-mem run) → Meets 𝓤 H A f.signature (WpFn 𝓤 H (𝓣 .C) (𝓣 .Λ) code.function) (f.spec 𝓤 H A at-mem run)
 de-new-meets 𝓤 H A W at-mem run 𝓣 k₁ k₂ = walk-meets 𝓤 H A f.ended stayed W (goes-ref 𝓤 H A W 1 0 tt (plain (λ _. F.the-row)), (goes-none 𝓤 H A W 1 (λ _. Q.the-row) yes (λ κs x f. refl), tt))
     (f.clauses 𝓤 H A at-mem run) (WpFn 𝓤 H (𝓣 .C) (𝓣 .Λ) code.function) (WpFn-mono 𝓤 H (W .laws) 𝓣 code.function) (de-new-walks 𝓤 H A W at-mem run (𝓣 .C) (𝓣 .Λ) (fmOf 𝓤 H (W .laws) 𝓣) k₁ k₂)
 
@@ -189,5 +190,5 @@ de-new-spec 𝓤 H 𝓜 𝓖 𝓡 =
     entered 𝓤 H (tripleOf 𝓤 H (𝓖 .A) f.signature (f.spec 𝓤 H (𝓖 .A) (𝓜 .mem) (𝓡 .run)))
     (tables 𝓤 H 𝓜 𝓡 code.env .C) (tables 𝓤 H 𝓜 𝓡 code.env .Λ) #exports·de-new code.function (code.unfolded 𝓤 H 𝓜 𝓡)
     (de-new-meets 𝓤 H (𝓖 .A) (givenOf 𝓤 H 𝓜 𝓖) (𝓜 .mem) (𝓡 .run) (tablesOf 𝓤 H 𝓜 (tables 𝓤 H 𝓜 𝓡 code.env))
-    (cited 𝓤 H (Settle 𝓤 H (𝓖 .A) (𝓜 .mem) (𝓡 .run)) 𝓜 𝓡 code.env #exports·build·settle-setup settle-def.routine code.calls-exports·build·settle-setup (settle-thm.met 𝓤 H 𝓜 𝓖 𝓡))
-    (cited 𝓤 H (Fresh 𝓤 H (𝓖 .A) (𝓜 .mem) (𝓡 .run)) 𝓜 𝓡 code.env #exports·build·fresh fresh-def.routine code.calls-exports·build·fresh (fresh-thm.met 𝓤 H 𝓜 𝓖 𝓡)))
+    (cited 𝓤 H (Settle 𝓤 H (𝓖 .A) (𝓜 .mem) (𝓡 .run)) 𝓜 𝓡 code.env #edge·build·settle-setup settle-def.routine code.calls-edge·build·settle-setup (settle-thm.met 𝓤 H 𝓜 𝓖 𝓡))
+    (cited 𝓤 H (Fresh 𝓤 H (𝓖 .A) (𝓜 .mem) (𝓡 .run)) 𝓜 𝓡 code.env #edge·build·fresh fresh-def.routine code.calls-edge·build·fresh (fresh-thm.met 𝓤 H 𝓜 𝓖 𝓡)))

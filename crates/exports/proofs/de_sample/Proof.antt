@@ -63,36 +63,37 @@ use Rattle.de.proofs.sample.sample as sample
 use Rattle.de.proofs.sample.sample.Symbol as sample-def
 use Rattle.de.proofs.sample.sample.Symbol.{name as #de·sample·sample}
 use Rattle.de.proofs.sample.sample.Met as sample-thm
-use Rattle.exports.specs.Flat.{flatOf}
-use Rattle.exports.specs.Answers.{questionOf, settledOf, sampledFrom, settledSample, sampleAnswer, sampleState}
-use Rattle.exports.specs.declared.flat.DeState.{DeState}
-use Rattle.exports.specs.declared.answers.DeCall.{DeCall}
-use Rattle.exports.specs.declared.answers.DeAnswer.{DeAnswer}
-use Rattle.exports.specs.declared.answers.Question.{Question}
-use Rattle.exports.specs.declared.answers.Settled.{Settled}
-use Rattle.exports.proofs.flat.DeState as F
-use Rattle.exports.proofs.flat.DeState.Laws as F′
-use Rattle.exports.proofs.answers.DeCall as Q
-use Rattle.exports.proofs.answers.DeCall.Laws as Q′
-use Rattle.exports.proofs.answers.DeAnswer as O
-use Rattle.exports.proofs.answers.DeAnswer.Laws as O′
-use Rattle.exports.proofs.answers.Question as K
-use Rattle.exports.proofs.answers.Question.Laws as K′
-use Rattle.exports.proofs.answers.Settled as P
-use Rattle.exports.proofs.answers.Settled.Laws as P′
+use Rattle.edge.specs.Flat.{flatOf}
+use Rattle.edge.specs.Answers.{questionOf, settledOf}
+use Rattle.exports.specs.Calls.{sampledFrom, settledSample, sampleAnswer, sampleState}
+use Rattle.edge.specs.declared.flat.DeState.{DeState}
+use Rattle.edge.specs.declared.answers.DeCall.{DeCall}
+use Rattle.edge.specs.declared.answers.DeAnswer.{DeAnswer}
+use Rattle.edge.specs.declared.answers.Question.{Question}
+use Rattle.edge.specs.declared.answers.Settled.{Settled}
+use Rattle.edge.proofs.flat.DeState as F
+use Rattle.edge.proofs.flat.DeState.Laws as F′
+use Rattle.edge.proofs.answers.DeCall as Q
+use Rattle.edge.proofs.answers.DeCall.Laws as Q′
+use Rattle.edge.proofs.answers.DeAnswer as O
+use Rattle.edge.proofs.answers.DeAnswer.Laws as O′
+use Rattle.edge.proofs.answers.Question as K
+use Rattle.edge.proofs.answers.Question.Laws as K′
+use Rattle.edge.proofs.answers.Settled as P
+use Rattle.edge.proofs.answers.Settled.Laws as P′
 use Rattle.exports.proofs.Stored.{stored, kept}
-use Rattle.exports.proofs.answers.open_call as opened
-use Rattle.exports.proofs.answers.open_call.Symbol as opened-def
-use Rattle.exports.proofs.answers.open_call.Symbol.{name as #exports·answers·open-call}
-use Rattle.exports.proofs.answers.open_call.Met as opened-thm
-use Rattle.exports.proofs.answers.settle as settle
-use Rattle.exports.proofs.answers.settle.Symbol as settle-def
-use Rattle.exports.proofs.answers.settle.Symbol.{name as #exports·answers·settle}
-use Rattle.exports.proofs.answers.settle.Met as settle-thm
-use Rattle.exports.proofs.flatten.flatten as flatten
-use Rattle.exports.proofs.flatten.flatten.Symbol as flatten-def
-use Rattle.exports.proofs.flatten.flatten.Symbol.{name as #exports·flatten·flatten}
-use Rattle.exports.proofs.flatten.flatten.Met as flatten-thm
+use Rattle.edge.proofs.answers.open_call as opened
+use Rattle.edge.proofs.answers.open_call.Symbol as opened-def
+use Rattle.edge.proofs.answers.open_call.Symbol.{name as #edge·answers·open-call}
+use Rattle.edge.proofs.answers.open_call.Met as opened-thm
+use Rattle.edge.proofs.answers.settle as settle
+use Rattle.edge.proofs.answers.settle.Symbol as settle-def
+use Rattle.edge.proofs.answers.settle.Symbol.{name as #edge·answers·settle}
+use Rattle.edge.proofs.answers.settle.Met as settle-thm
+use Rattle.edge.proofs.flatten.flatten as flatten
+use Rattle.edge.proofs.flatten.flatten.Symbol as flatten-def
+use Rattle.edge.proofs.flatten.flatten.Symbol.{name as #edge·flatten·flatten}
+use Rattle.edge.proofs.flatten.flatten.Met as flatten-thm
 use Rattle.exports.proofs.de_sample.Key.{name as #exports·de-sample}
 use Rattle.exports.proofs.de_sample as f
 use Rattle.exports.proofs.de_sample.Code as code
@@ -213,8 +214,8 @@ module _ {M : Type 1} (𝓤 : URA M) (H : Heap 𝓤) (A : Atoms 𝓤) (W : Given
     flatten-pre : (r : Sampled) (vs : Val) → Is S.the-row (r .state) (vs ∷ []) → ent 𝓤 (emp 𝓤) (Flatten 𝓤 H A at-mem run .pre (to-flatten r vs))
     flatten-pre r vs iss = qed W [] ∵ nothing ! $ owned ! S.the-row (Is S.the-row) (LL.makes S.the-type S′.the-plain 𝓤 H A) (r .state) (vs ∷ []) iss $ fjoin ! $ nothing ! $ join ! $ frame ! $ done !
 
-    module _ (C : Calls 𝓤 H) (Λ : Loops 𝓤 H) (fm : FmC 𝓤 H (W .laws) C) (known-open : Triple 𝓤 (C #exports·answers·open-call) (Opened 𝓤 H A at-mem run)) (known-sample : Triple 𝓤 (C #de·sample·sample) (Sample 𝓤 H A at-mem run))
-        (known-settle : Triple 𝓤 (C #exports·answers·settle) (Settle 𝓤 H A at-mem run)) (known-flatten : Triple 𝓤 (C #exports·flatten·flatten) (Flatten 𝓤 H A at-mem run)) where
+    module _ (C : Calls 𝓤 H) (Λ : Loops 𝓤 H) (fm : FmC 𝓤 H (W .laws) C) (known-open : Triple 𝓤 (C #edge·answers·open-call) (Opened 𝓤 H A at-mem run)) (known-sample : Triple 𝓤 (C #de·sample·sample) (Sample 𝓤 H A at-mem run))
+        (known-settle : Triple 𝓤 (C #edge·answers·settle) (Settle 𝓤 H A at-mem run)) (known-flatten : Triple 𝓤 (C #edge·flatten·flatten) (Flatten 𝓤 H A at-mem run)) where
       -- the body, over any types of the locals: nothing of a walk reads how a State is laid out
       module _ (νk νr νp : Sym) (τo τ₁ τh τ₇ τ₉ τd τs τa : Ty) (vd vs : Question → Val) (va vt : Sampled → Val) (vo : Settled → Val) where
         abbrev τk : Ty
@@ -321,13 +322,13 @@ module _ {M : Type 1} (𝓤 : URA M) (H : Heap 𝓤) (A : Atoms 𝓤) (W : Given
           (λ p v is. LL.lawful O.the-type O′.the-laws 𝓤 H A W .typed (p .answer) _ (LL.owed P.the-type P′.the-laws p (v ∷ []) is .1 .0) .0) Post exits l₀ l₁ l₂ l₃ l₄ l₅ l₆ l₇ l₈ l₉))))))))))))
 
 module _ {M : Type 1} (𝓤 : URA M) (H : Heap 𝓤) (A : Atoms 𝓤) (W : Given 𝓤 H A) (at-mem : Memory → SProp 𝓤) (run : Routine → Fun 𝓤) where
-  de-sample-walks : (C : Calls 𝓤 H) (Λ : Loops 𝓤 H) → FmC 𝓤 H (W .laws) C → Triple 𝓤 (C #exports·answers·open-call) (Opened 𝓤 H A at-mem run) → Triple 𝓤 (C #de·sample·sample) (Sample 𝓤 H A at-mem run) → Triple 𝓤 (C #exports·answers·settle) (Settle 𝓤 H A at-mem run) → Triple 𝓤 (C #exports·flatten·flatten) (Flatten 𝓤 H A at-mem run)
+  de-sample-walks : (C : Calls 𝓤 H) (Λ : Loops 𝓤 H) → FmC 𝓤 H (W .laws) C → Triple 𝓤 (C #edge·answers·open-call) (Opened 𝓤 H A at-mem run) → Triple 𝓤 (C #de·sample·sample) (Sample 𝓤 H A at-mem run) → Triple 𝓤 (C #edge·answers·settle) (Settle 𝓤 H A at-mem run) → Triple 𝓤 (C #edge·flatten·flatten) (Flatten 𝓤 H A at-mem run)
       → Walks 𝓤 H A f.ended stayed (WpFn 𝓤 H C Λ code.function) (f.clauses 𝓤 H A at-mem run)
   de-sample-walks C Λ fm k₁ k₂ k₃ k₄ = walked 𝓤 H A f.ended stayed (f.clauses 𝓤 H A at-mem run) (WpFn 𝓤 H C Λ code.function) (λ κs. (ptr-vals, (LL.vals Q.the-type Q′.the-laws, (slice-vals, tt)))) (λ κs. (mut-tells (named 0) (κs .0) F.the-row, (LL.tells Q.the-type Q′.the-laws, (shr-slice-tells (named 1) (κs .1 .0) T.the-row, tt))))
       (λ κs qs bounds a _ are. via 𝓤 _ (fst∗ 𝓤 _ (emp 𝓤)) (walk 𝓤 H A W at-mem run (κs .0) (κs .1 .0) (qs .0) (qs .1 .0) (a .0 .ptr .0) (a .0 .ptr .1) (a .0 .name) (a .0 .now) (a .1 .0) (a .1 .1 .0 .ptr .0) (a .1 .1 .0 .ptr .1) (a .1 .1 .0 .name) (a .1 .1 .0 .now) (are .1 .0) C Λ fm k₁ k₂ k₃ k₄ (are .1 .1 .0 .0 .1)))
 
 de-sample-meets : {M : Type 1} (𝓤 : URA M) (H : Heap 𝓤) (A : Atoms 𝓤) → Given 𝓤 H A → (at-mem : Memory → SProp 𝓤) (run : Routine → Fun 𝓤) (𝓣 : Tables 𝓤 H)
-    → Triple 𝓤 (𝓣 .C #exports·answers·open-call) (Opened 𝓤 H A at-mem run) → Triple 𝓤 (𝓣 .C #de·sample·sample) (Sample 𝓤 H A at-mem run) → Triple 𝓤 (𝓣 .C #exports·answers·settle) (Settle 𝓤 H A at-mem run) → Triple 𝓤 (𝓣 .C #exports·flatten·flatten) (Flatten 𝓤 H A at-mem run)
+    → Triple 𝓤 (𝓣 .C #edge·answers·open-call) (Opened 𝓤 H A at-mem run) → Triple 𝓤 (𝓣 .C #de·sample·sample) (Sample 𝓤 H A at-mem run) → Triple 𝓤 (𝓣 .C #edge·answers·settle) (Settle 𝓤 H A at-mem run) → Triple 𝓤 (𝓣 .C #edge·flatten·flatten) (Flatten 𝓤 H A at-mem run)
     → Meets 𝓤 H A f.signature (WpFn 𝓤 H (𝓣 .C) (𝓣 .Λ) code.function) (f.spec 𝓤 H A at-mem run)
 de-sample-meets 𝓤 H A W at-mem run 𝓣 k₁ k₂ k₃ k₄ = walk-meets 𝓤 H A f.ended stayed W (goes-ref 𝓤 H A W 2 0 tt (plain (λ _. F.the-row)), (goes-none 𝓤 H A W 2 (λ _. Q.the-row) yes (λ κs x f. refl), (goes-none-slice 𝓤 H A W 2 (1 ∷ []) tt (plain (λ _. T.the-row)) yes, tt)))
     (f.clauses 𝓤 H A at-mem run) (WpFn 𝓤 H (𝓣 .C) (𝓣 .Λ) code.function) (WpFn-mono 𝓤 H (W .laws) 𝓣 code.function) (de-sample-walks 𝓤 H A W at-mem run (𝓣 .C) (𝓣 .Λ) (fmOf 𝓤 H (W .laws) 𝓣) k₁ k₂ k₃ k₄)
@@ -338,7 +339,7 @@ de-sample-spec 𝓤 H 𝓜 𝓖 𝓡 =
     entered 𝓤 H (tripleOf 𝓤 H (𝓖 .A) f.signature (f.spec 𝓤 H (𝓖 .A) (𝓜 .mem) (𝓡 .run)))
     (tables 𝓤 H 𝓜 𝓡 code.env .C) (tables 𝓤 H 𝓜 𝓡 code.env .Λ) #exports·de-sample code.function (code.unfolded 𝓤 H 𝓜 𝓡)
     (de-sample-meets 𝓤 H (𝓖 .A) (givenOf 𝓤 H 𝓜 𝓖) (𝓜 .mem) (𝓡 .run) (tablesOf 𝓤 H 𝓜 (tables 𝓤 H 𝓜 𝓡 code.env))
-    (cited 𝓤 H (Opened 𝓤 H (𝓖 .A) (𝓜 .mem) (𝓡 .run)) 𝓜 𝓡 code.env #exports·answers·open-call opened-def.routine code.calls-exports·answers·open-call (opened-thm.met 𝓤 H 𝓜 𝓖 𝓡))
+    (cited 𝓤 H (Opened 𝓤 H (𝓖 .A) (𝓜 .mem) (𝓡 .run)) 𝓜 𝓡 code.env #edge·answers·open-call opened-def.routine code.calls-edge·answers·open-call (opened-thm.met 𝓤 H 𝓜 𝓖 𝓡))
     (cited 𝓤 H (Sample 𝓤 H (𝓖 .A) (𝓜 .mem) (𝓡 .run)) 𝓜 𝓡 code.env #de·sample·sample sample-def.routine code.calls-de·sample·sample (sample-thm.met 𝓤 H 𝓜 𝓖 𝓡))
-    (cited 𝓤 H (Settle 𝓤 H (𝓖 .A) (𝓜 .mem) (𝓡 .run)) 𝓜 𝓡 code.env #exports·answers·settle settle-def.routine code.calls-exports·answers·settle (settle-thm.met 𝓤 H 𝓜 𝓖 𝓡))
-    (cited 𝓤 H (Flatten 𝓤 H (𝓖 .A) (𝓜 .mem) (𝓡 .run)) 𝓜 𝓡 code.env #exports·flatten·flatten flatten-def.routine code.calls-exports·flatten·flatten (flatten-thm.met 𝓤 H 𝓜 𝓖 𝓡)))
+    (cited 𝓤 H (Settle 𝓤 H (𝓖 .A) (𝓜 .mem) (𝓡 .run)) 𝓜 𝓡 code.env #edge·answers·settle settle-def.routine code.calls-edge·answers·settle (settle-thm.met 𝓤 H 𝓜 𝓖 𝓡))
+    (cited 𝓤 H (Flatten 𝓤 H (𝓖 .A) (𝓜 .mem) (𝓡 .run)) 𝓜 𝓡 code.env #edge·flatten·flatten flatten-def.routine code.calls-edge·flatten·flatten (flatten-thm.met 𝓤 H 𝓜 𝓖 𝓡)))

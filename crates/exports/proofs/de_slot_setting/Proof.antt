@@ -34,17 +34,17 @@ use denote.Triple.Table.{entered, cited}
 use denote.Triple.Walked.{says, Stays, stay-none-ref, stay-none, walkOf, Walks, ends-at, walked, goes-none-ref, goes-none, walk-meets}
 use denote.Exit.{yes}
 use Rattle.history.proofs.Called.{returned}
-use Rattle.exports.specs.Held.{heldAt}
-use Rattle.exports.specs.declared.flat.DeState.{DeState}
-use Rattle.exports.specs.declared.answers.DeAnswer.{DeAnswer}
-use Rattle.exports.proofs.flat.DeState as F
-use Rattle.exports.proofs.flat.DeState.Laws as F′
-use Rattle.exports.proofs.answers.DeAnswer as O
-use Rattle.exports.proofs.answers.DeAnswer.Laws as O′
-use Rattle.exports.proofs.held.held_at as held-at
-use Rattle.exports.proofs.held.held_at.Symbol as held-def
-use Rattle.exports.proofs.held.held_at.Symbol.{name as #exports·held·held-at}
-use Rattle.exports.proofs.held.held_at.Met as held-thm
+use Rattle.edge.specs.Held.{heldAt}
+use Rattle.edge.specs.declared.flat.DeState.{DeState}
+use Rattle.edge.specs.declared.answers.DeAnswer.{DeAnswer}
+use Rattle.edge.proofs.flat.DeState as F
+use Rattle.edge.proofs.flat.DeState.Laws as F′
+use Rattle.edge.proofs.answers.DeAnswer as O
+use Rattle.edge.proofs.answers.DeAnswer.Laws as O′
+use Rattle.edge.proofs.held.held_at as held-at
+use Rattle.edge.proofs.held.held_at.Symbol as held-def
+use Rattle.edge.proofs.held.held_at.Symbol.{name as #edge·held·held-at}
+use Rattle.edge.proofs.held.held_at.Met as held-thm
 use Rattle.exports.proofs.de_slot_setting.Key.{name as #exports·de-slot-setting}
 use Rattle.exports.proofs.de_slot_setting as f
 use Rattle.exports.proofs.de_slot_setting.Code as code
@@ -90,7 +90,7 @@ module _ {M : Type 1} (𝓤 : URA M) (H : Heap 𝓤) (A : Atoms 𝓤) (W : Given
     held-pre = qed W [] ∵ nothing ! $ owned ! u64 (Is u64) (uint-makes 𝓤 H A W w64) k _ (refl, gk) $ fjoin ! $ owned ! u64 (Is u64) (uint-makes 𝓤 H A W w64) i _ (refl, gi) $ fjoin ! $
         owned ! F.the-row (Is F.the-row) (LL.makes F.the-type F′.the-plain 𝓤 H A) s (ms ∷ []) iss $ fjoin ! $ nothing ! $ join ! $ frame ! $ done !
 
-  module _ (C : Calls 𝓤 H) (Λ : Loops 𝓤 H) (fm : FmC 𝓤 H (W .laws) C) (known : Triple 𝓤 (C #exports·held·held-at) (HeldAt 𝓤 H A at-mem run)) where
+  module _ (C : Calls 𝓤 H) (Λ : Loops 𝓤 H) (fm : FmC 𝓤 H (W .laws) C) (known : Triple 𝓤 (C #edge·held·held-at) (HeldAt 𝓤 H A at-mem run)) where
     walk : ent 𝓤 (onEntry 𝓤 H A f.signature (κ, tt) (q, tt) x at) (WpFn 𝓤 H C Λ code.function (vptr b o ∷ vint w64 i ∷ vint w64 k ∷ []) Post)
     walk =
         qed W ((‵ (flft κ q) ⊛ ‵ ftrue) ∷ ‵ (owns (ShrRef (named 0) κ F.the-row ∷ u64 ∷ u64 ∷ []) x at) ∷ []) ∵ enter ! C Λ code.function (vptr b o ∷ vint w64 i ∷ vint w64 k ∷ []) _ $
@@ -110,12 +110,12 @@ module _ {M : Type 1} (𝓤 : URA M) (H : Heap 𝓤) (A : Atoms 𝓤) (W : Given
         move ! (13 ∷ 14 ∷ []) $ free1 ! $ move ! (11 ∷ 12 ∷ []) $ free1 ! $ move ! (9 ∷ 10 ∷ []) $ free1 ! $ move ! (7 ∷ 8 ∷ []) $ free1 ! $ move ! (5 ∷ 6 ∷ []) $ free1 ! $ free0 ! $ keep ! (0 ∷ 3 ∷ 1 ∷ []) $ by ! (exits r v is e))))))))))
 
 module _ {M : Type 1} (𝓤 : URA M) (H : Heap 𝓤) (A : Atoms 𝓤) (W : Given 𝓤 H A) (at-mem : Memory → SProp 𝓤) (run : Routine → Fun 𝓤) where
-  de-slot-setting-walks : (C : Calls 𝓤 H) (Λ : Loops 𝓤 H) → FmC 𝓤 H (W .laws) C → Triple 𝓤 (C #exports·held·held-at) (HeldAt 𝓤 H A at-mem run) → Walks 𝓤 H A f.ended stayed (WpFn 𝓤 H C Λ code.function) (f.clauses 𝓤 H A at-mem run)
+  de-slot-setting-walks : (C : Calls 𝓤 H) (Λ : Loops 𝓤 H) → FmC 𝓤 H (W .laws) C → Triple 𝓤 (C #edge·held·held-at) (HeldAt 𝓤 H A at-mem run) → Walks 𝓤 H A f.ended stayed (WpFn 𝓤 H C Λ code.function) (f.clauses 𝓤 H A at-mem run)
   de-slot-setting-walks C Λ fm k = walked 𝓤 H A f.ended stayed (f.clauses 𝓤 H A at-mem run) (WpFn 𝓤 H C Λ code.function) (λ κs. (ptr-vals, (uint-vals w64, (uint-vals w64, tt)))) (λ κs. (shr-tells (named 0) (κs .0) F.the-row, (uint-tells w64, (uint-tells w64, tt))))
       (λ κs qs bounds a _ are. via 𝓤 _ (fst∗ 𝓤 _ (emp 𝓤)) (walk 𝓤 H A W at-mem run (κs .0) (qs .0) (a .0 .ptr .0) (a .0 .ptr .1) (a .0 .name) (a .0 .now) (a .1 .0) (a .1 .1 .0) (are .1 .0 .1) (are .1 .1 .0 .1) C Λ fm k))
 
 de-slot-setting-meets : {M : Type 1} (𝓤 : URA M) (H : Heap 𝓤) (A : Atoms 𝓤) → Given 𝓤 H A → (at-mem : Memory → SProp 𝓤) (run : Routine → Fun 𝓤) (𝓣 : Tables 𝓤 H)
-    → Triple 𝓤 (𝓣 .C #exports·held·held-at) (HeldAt 𝓤 H A at-mem run) → Meets 𝓤 H A f.signature (WpFn 𝓤 H (𝓣 .C) (𝓣 .Λ) code.function) (f.spec 𝓤 H A at-mem run)
+    → Triple 𝓤 (𝓣 .C #edge·held·held-at) (HeldAt 𝓤 H A at-mem run) → Meets 𝓤 H A f.signature (WpFn 𝓤 H (𝓣 .C) (𝓣 .Λ) code.function) (f.spec 𝓤 H A at-mem run)
 de-slot-setting-meets 𝓤 H A W at-mem run 𝓣 k = walk-meets 𝓤 H A f.ended stayed W (goes-none-ref 𝓤 H A W 1 (0 ∷ []) tt (plain (λ _. F.the-row)) yes, (goes-none 𝓤 H A W 1 (λ _. u64) yes (λ κs x f. refl), (goes-none 𝓤 H A W 1 (λ _. u64) yes (λ κs x f. refl), tt)))
     (f.clauses 𝓤 H A at-mem run) (WpFn 𝓤 H (𝓣 .C) (𝓣 .Λ) code.function) (WpFn-mono 𝓤 H (W .laws) 𝓣 code.function) (de-slot-setting-walks 𝓤 H A W at-mem run (𝓣 .C) (𝓣 .Λ) (fmOf 𝓤 H (W .laws) 𝓣) k)
 
@@ -125,4 +125,4 @@ de-slot-setting-spec 𝓤 H 𝓜 𝓖 𝓡 =
     entered 𝓤 H (tripleOf 𝓤 H (𝓖 .A) f.signature (f.spec 𝓤 H (𝓖 .A) (𝓜 .mem) (𝓡 .run)))
     (tables 𝓤 H 𝓜 𝓡 code.env .C) (tables 𝓤 H 𝓜 𝓡 code.env .Λ) #exports·de-slot-setting code.function (code.unfolded 𝓤 H 𝓜 𝓡)
     (de-slot-setting-meets 𝓤 H (𝓖 .A) (givenOf 𝓤 H 𝓜 𝓖) (𝓜 .mem) (𝓡 .run) (tablesOf 𝓤 H 𝓜 (tables 𝓤 H 𝓜 𝓡 code.env))
-    (cited 𝓤 H (HeldAt 𝓤 H (𝓖 .A) (𝓜 .mem) (𝓡 .run)) 𝓜 𝓡 code.env #exports·held·held-at held-def.routine code.calls-exports·held·held-at (held-thm.met 𝓤 H 𝓜 𝓖 𝓡)))
+    (cited 𝓤 H (HeldAt 𝓤 H (𝓖 .A) (𝓜 .mem) (𝓡 .run)) 𝓜 𝓡 code.env #edge·held·held-at held-def.routine code.calls-edge·held·held-at (held-thm.met 𝓤 H 𝓜 𝓖 𝓡)))
