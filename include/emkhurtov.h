@@ -1,7 +1,7 @@
 /* The differential evolution sampler for C callers. Link with libemkhurtov.a (lib/x86_64-linux, or by pkg-config).
  *
- * The functions de_new, de_sample, de_look, de_slot_setting and de_to_internal are the proved code itself
- * (crates/exports); what each promises stands beside it and is proved there for every memory content and every
+ * The functions de_new, de_sample, de_look, de_slot_setting, de_to_internal and de_draw_ceiling are the proved code
+ * itself (crates/exports); what each promises stands beside it and is proved there for every memory content and every
  * argument. They take references, so a pointer that they are given must be valid. The functions de_checked_* below test
  * what a pointer's callers get wrong (null, too short, misaligned) and then call them.
  *
@@ -19,9 +19,9 @@
 extern "C" {
 #endif
 
-#define DE_VERSION "0.2.0"
+#define DE_VERSION "0.3.0"
 #define DE_VERSION_MAJOR 0
-#define DE_VERSION_MINOR 2
+#define DE_VERSION_MINOR 3
 #define DE_VERSION_PATCH 0
 
 /* The version of the library that is linked: DE_VERSION, where it is this header's. */
@@ -33,7 +33,8 @@ enum {
     DE_MAX_POPULATION = 160,
     DE_MAX_EXTRA = 64,
     DE_MAX_TRIALS = 224, /* DE_MAX_POPULATION + DE_MAX_EXTRA */
-    DE_MAX_CHOICES = 65535
+    DE_MAX_CHOICES = 65535,
+    DE_MAX_DRAWS = 494080 /* of one call: DE_MAX_POPULATION x (3,072 + DE_MAX_DIMENSIONS) */
 };
 #define DE_MAX_REAL 1e300                      /* the largest Float bound */
 #define DE_MAX_WHOLE INT64_C(9007199254740992) /* 2^53, the largest Int bound and step */
@@ -228,6 +229,26 @@ DeAnswer de_slot_setting(const DeState *state, uint64_t slot, uint64_t dimension
 /* The double that a setting stands for; refusals 4 to 7 of the distribution, and DE_BOUNDS for an Int setting past
  * 2^53; 0.0 where the kinds differ. */
 DeInternal de_to_internal(DeDistribution distribution, DeSetting setting);
+
+/* For a watchdog: how much one de_sample call can draw (`draws` of its answer), which is never over DE_MAX_DRAWS. With
+ * N (`n`), D (`n_dims`) and the strategy (`setup.strategy`) of the state after the call, it is at most
+ *
+ * - N x (3,072 + D) under DE_RAND1, N x (2,048 + D) under the other two, in a call that closes a generation or ends
+ *   discovery: `n_trials` is less after it than before, or `discovered` was DE_NO and is DE_YES;
+ * - in any other call 1 where the trial already has a candidate (its number was among the first n_trials of `trials`
+ *   before the call), and D where it has none;
+ * - 0 where there is no setting.
+ *
+ * de_draw_ceiling does without the state before: by n, n_dims and strategy after a call it answers what bounds the
+ * call whatever it did. That is n_dims where n is 0, since discovery has not ended then, and the first ceiling above
+ * otherwise. It is 0 where n is over DE_MAX_POPULATION, n_dims is over DE_MAX_DIMENSIONS or the strategy names no case:
+ * no sound state has these, and a refused call draws nothing.
+ *
+ * It may be asked ahead of a call too: where `discovered` is DE_YES, what it answers by the state before the call
+ * bounds the call as well. Before that the next call may end discovery. Take the N and D that there will be then: a
+ * size that is set is N, raised to DE_MIN_POPULATION; unset, N is the larger of 15 and 10 x the number of Float and Int
+ * dimensions. */
+uint64_t de_draw_ceiling(uint64_t n, uint64_t n_dims, uint64_t strategy);
 
 /* One of each struct, as the library lays it out. In each struct the fields that are numbers hold 1, 2, .. in the order
  * of declaration, and an array of numbers holds two of these, in its first and last place. A field that is a struct

@@ -6,15 +6,7 @@
 #include <stdlib.h>
 #include <string.h>
 
-static int failures;
-
-#define EXPECT(c)                                                                                                      \
-    do {                                                                                                               \
-        if (!(c)) {                                                                                                    \
-            printf("line %d: not so: %s\n", __LINE__, #c);                                                             \
-            failures++;                                                                                                \
-        }                                                                                                              \
-    } while (0)
+#include "expect.h"
 
 static const DeSetup setup = {
     .mutation_factor = 0.8, .crossover_rate = 0.9, .strategy = DE_RAND1, .sized = 1, .population_size = 4, .seed = 1};
@@ -250,10 +242,5 @@ int main(void) {
     lent_histories();
     slots();
     a_waiting_generation();
-    if (failures != 0) {
-        printf("C edges: %d not as expected\n", failures);
-        return 1;
-    }
-    printf("C edges: as expected\n");
-    return 0;
+    return ended("C edges");
 }
