@@ -165,6 +165,7 @@ unsafe extern "C" {
     pub fn de_look(state: *const DeState) -> DeLook;
     pub fn de_slot_setting(state: *const DeState, slot: u64, dimension: u64) -> DeAnswer;
     pub safe fn de_to_internal(distribution: DeDistribution, setting: DeSetting) -> DeInternal;
+    pub safe fn de_draw_ceiling(n: u64, n_dims: u64, strategy: u64) -> u64;
     pub safe fn de_marks() -> DeMarks;
     // Both are texts that end in a zero and stay.
     pub safe fn de_version() -> *const c_char;

@@ -25,6 +25,7 @@
 #![deny(missing_docs)]
 
 mod builder;
+mod ceiling;
 mod ffi;
 mod layout;
 mod refusal;
@@ -32,6 +33,7 @@ mod sampler;
 mod types;
 
 pub use builder::SamplerBuilder;
+pub use ceiling::{MAX_DRAWS, draw_ceiling};
 pub use refusal::Refusal;
 pub use sampler::{Look, Sampled, Sampler, to_internal, version};
 pub use types::{
