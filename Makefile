@@ -88,8 +88,8 @@ compare-short: replay
 callers: replay
 	bindings/test
 
-# Times, ratios and memory against the Rust original in one run, and the parts of a call (docs/BENCHMARKS.md): of the
-# library as it is built here, shipped or not yet.
+# Times, ratios and memory against the Rust original in one run, the parts of a call, and the largest counts of draws next
+# to their ceilings (docs/BENCHMARKS.md): of the library as it is built here, shipped or not yet.
 bench: lib
 	rt check bench
 	target/bin/bench run

@@ -2,7 +2,12 @@
 //!
 //! `time NAME NANOSECONDS`, `bytes NAME COUNT` and `ratio NAME VALUE`; a ratio is the proved library's figure over the
 //! Rust's. Each time is the least of several rounds, in which the two take turns.
+//!
+//! `draws NAME SEEN CEILING`: the largest count of draws that a call of the proved library made, and its ceiling.
+//! `generation` are the calls that close a generation or end discovery, `other` all others, `candidate` those of them
+//! whose trial already has a candidate. It stops where a call drew more.
 
+mod draws;
 mod memory;
 mod sides;
 
@@ -176,4 +181,5 @@ fn main() {
         println!("bytes memory/rust-{n}-{d} {r}");
         println!("ratio memory/rust-{n}-{d} {:.2}", p as f64 / r as f64);
     }
+    draws::report();
 }

@@ -22,6 +22,16 @@ fn kind(d: usize, i: usize) -> usize {
     if d == 2 { 0 } else { [0, 0, 1, 0, 2][i % 5] }
 }
 
+/// The dimensions as the proved library has them.
+pub fn dimensions(d: usize) -> Vec<proved::Distribution> {
+    let dimension = |i| match kind(d, i) {
+        0 => proved::Distribution::float(-5.0, 5.0 + i as f64),
+        1 => proved::Distribution::int_step(0, 1000, 5),
+        _ => proved::Distribution::categorical(7),
+    };
+    (0..d).map(dimension).collect()
+}
+
 pub struct Proved {
     sampler: proved::Sampler,
     dimensions: Vec<proved::Distribution>,
@@ -35,14 +45,9 @@ impl Side for Proved {
             .seed(seed)
             .build()
             .unwrap();
-        let dimension = |i| match kind(d, i) {
-            0 => proved::Distribution::float(-5.0, 5.0 + i as f64),
-            1 => proved::Distribution::int_step(0, 1000, 5),
-            _ => proved::Distribution::categorical(7),
-        };
         Proved {
             sampler,
-            dimensions: (0..d).map(dimension).collect(),
+            dimensions: dimensions(d),
             history: Vec::new(),
         }
     }
