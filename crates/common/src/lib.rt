@@ -1,7 +1,7 @@
 // Between settings and internal doubles (sampler/common.rs).
 mod float;
 mod int;
-mod places;
+pub mod places;
 
 ghost use mathlib.Core.Path.{_≡_};
 ghost use Prim.Native.Nat.{_^_, _<_};

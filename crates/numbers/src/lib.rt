@@ -23,7 +23,7 @@ pub enum DoubleWord {
 }
 
 // The value of a digit; 99, which is a digit of no base, where the byte is none.
-fn digit(b: u8) -> u64
+pub fn digit(b: u8) -> u64
     ensures { λ r. ⌜ r ≡ digitOf b ⌝ }
 {
     if b < b'0' {
