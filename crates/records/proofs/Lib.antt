@@ -1,0 +1,16 @@
+pub mod Broken
+pub mod Comparing
+pub mod Exact
+pub mod Fits
+pub mod Following
+pub mod Held
+pub mod Lists
+pub mod Orders
+pub mod Pasted
+pub mod Permuted
+pub mod ReadFits
+pub mod Reading
+pub mod Recorded
+pub mod Sections
+pub mod Tabled
+pub mod Written
