@@ -1,0 +1,10 @@
+pub mod Back
+pub mod Decoded
+pub mod Entries
+pub mod EntriesIn
+pub mod Few
+pub mod Saving
+pub mod Sectioned
+pub mod Small
+pub mod Typed
+pub mod Types

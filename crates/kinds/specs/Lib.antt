@@ -1,0 +1,4 @@
+pub mod Rows
+pub mod Kinds
+pub mod Opened
+pub mod Typed
