@@ -1,0 +1,11 @@
+pub mod Again
+pub mod Answers
+pub mod AnyOld
+pub mod Content
+pub mod Contracts
+pub mod Counts
+pub mod Reader
+pub mod RoundTrip
+pub mod Survives
+pub mod Thirteen
+pub mod Wrote

@@ -1,0 +1,4 @@
+pub mod File
+pub mod Save
+pub mod Restore
+pub mod Saves
