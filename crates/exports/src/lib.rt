@@ -1,10 +1,13 @@
 // The sampler for callers in C and Rust: `rt staticlib exports` writes the library. The structs that cross are those of `edge`.
-// A call or set-up with a number that names no case answers kind 4; a state with one is not sound, and that is refusal 0.
+// A call or set-up with a number that names no case answers kind 4; a state with one is not sound, and that is refusal 0, or 13 where
+// it is to be saved.
 ghost use mathlib.Core.Path.{_≡_};
-ghost use Rattle.exports.specs.Calls.{newAnswer, newState, sampleAnswer, sampleState};
+ghost use lib.ListN.{length};
+ghost use Rattle.exports.specs.Calls.{newAnswer, newState, sampleAnswer, sampleState, restoreAnswer, restoreState};
 ghost use Rattle.edge.specs.Look.{lookAt};
 ghost use Rattle.edge.specs.Held.{heldAt};
 ghost use Rattle.edge.specs.Internal.{internalOf};
+ghost use Rattle.files.specs.File.{saveAnswer, saveFile};
 ghost use Rattle.exports.specs.Ceiling.{ceilingAt};
 ghost use Rattle.layout.specs.Marks.{marks};
 use de::ceiling::draw_ceiling;
@@ -26,6 +29,10 @@ use edge::internal::DeSetting;
 use edge::internal::internal_of;
 use edge::look::DeLook;
 use edge::look::look_at;
+use files::file::DeFile;
+use files::file::read_file;
+use files::file::save_at;
+use files::file::settle_restored;
 use history::CompletedTrial;
 use layout::marks::DeMarks;
 use layout::marks::marked;
@@ -94,6 +101,28 @@ pub extern "C" fn de_draw_ceiling(n: u64, n_dims: u64, strategy: u64) -> u64
         return 0;
     }
     draw_ceiling(n, n_dims, open_strategy(strategy))
+}
+
+// The state as a saved file (docs/SAVED.md). A refusal leaves the lent file as it was.
+#[no_mangle]
+pub extern "C" fn de_save(state: &DeState, file: &mut [u8]) -> DeFile
+    ensures { λ r. ⌜ (r ≡ saveAnswer (now (state .entry)) (length (now (file .entry)))) × (now (file .exit) ≡ saveFile (now (state .entry)) (now (file .entry))) ⌝ }
+{
+    let s = *state;
+    save_at(s, file)
+}
+
+// The state of a saved file. What is lent is written only where the file is taken, and never read.
+#[no_mangle]
+pub extern "C" fn de_restore(state: &mut DeState, file: &[u8]) -> DeFile
+    ensures { λ r. ⌜ (r ≡ restoreAnswer (now (file .entry))) × (now (state .exit) ≡ restoreState (now (state .entry)) (now (file .entry))) ⌝ }
+{
+    let r = read_file(file);
+    let o = settle_restored(r.answer);
+    if o.stores {
+        *state = flatten(r.state);
+    }
+    o.answer
 }
 
 // The layout that the library has.

@@ -15,6 +15,7 @@ use Rattle.state.specs.declared.TrialProgress.{TrialProgress}
 use Rattle.history.specs.declared.CompletedTrial.{CompletedTrial}
 use Rattle.edge.specs.declared.answers.DeAnswer.{DeAnswer}
 use Rattle.edge.specs.declared.answers.DeCall.{DeCall}
+use Rattle.files.specs.declared.file.DeFile.{DeFile}
 use Rattle.edge.specs.declared.flat.DeSetup.{DeSetup}
 use Rattle.edge.specs.declared.flat.DeDistribution.{DeDistribution}
 use Rattle.edge.specs.declared.flat.DeState.{DeState}
@@ -83,6 +84,9 @@ internalMarks = record { kind = 1; refusal = 2; value = real 3 }
 unfoldable pub completedMarks : CompletedTrial
 unfolding ofInt
 completedMarks = record { number = 1; value = real 2 }
+
+abbrev pub fileMarks : DeFile
+fileMarks = record { kind = 1; refusal = 2; length = 3 }
 
 -- ---- the state
 
@@ -159,4 +163,6 @@ marks =
       «after_trial» = 8;
       state = markedState;
       «after_state» = 9;
+      file = fileMarks;
+      «after_file» = 10;
     }

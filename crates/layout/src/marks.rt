@@ -8,6 +8,7 @@ use crate::numbered::answer_marks;
 use crate::numbered::candidate_marks;
 use crate::numbered::completed_marks;
 use crate::numbered::distribution_marks;
+use crate::numbered::file_marks;
 use crate::numbered::internal_marks;
 use crate::numbered::look_marks;
 use crate::numbered::member_marks;
@@ -25,6 +26,7 @@ use edge::internal::DeInternal;
 use edge::internal::DeSetting;
 use edge::look::DeLook;
 use evolution::Member;
+use files::file::DeFile;
 use history::CompletedTrial;
 use selection::blank_member;
 use state::TrialProgress;
@@ -49,6 +51,8 @@ pub struct DeMarks {
     pub after_trial: u64,
     pub state: DeState,
     pub after_state: u64,
+    pub file: DeFile,
+    pub after_file: u64,
 }
 
 fn marked_dims() -> [DeDistribution; 16]
@@ -154,6 +158,7 @@ pub fn marked() -> DeMarks
     let setting = setting_marks();
     let internal = internal_marks();
     let trial = completed_marks();
+    let file = file_marks();
     DeMarks {
         setup,
         after_setup: 1,
@@ -173,5 +178,7 @@ pub fn marked() -> DeMarks
         after_trial: 8,
         state,
         after_state: 9,
+        file,
+        after_file: 10,
     }
 }

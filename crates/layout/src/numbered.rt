@@ -1,6 +1,6 @@
 // The small structs that cross, each with its own fields numbered from 1 on in the order of declaration (specs/Marks).
 ghost use mathlib.Core.Path.{_≡_};
-ghost use Rattle.layout.specs.Marks.{setupMarks, distributionMarks, candidateMarks, memberMarks, progressMarks, lookMarks, answerMarks, settingMarks, internalMarks, completedMarks};
+ghost use Rattle.layout.specs.Marks.{setupMarks, distributionMarks, candidateMarks, memberMarks, progressMarks, lookMarks, answerMarks, settingMarks, internalMarks, completedMarks, fileMarks};
 use candidates::Candidate;
 use edge::answers::DeAnswer;
 use edge::flat::DeDistribution;
@@ -9,6 +9,7 @@ use edge::internal::DeInternal;
 use edge::internal::DeSetting;
 use edge::look::DeLook;
 use evolution::Member;
+use files::file::DeFile;
 use history::CompletedTrial;
 use state::TrialProgress;
 
@@ -130,5 +131,15 @@ pub fn completed_marks() -> CompletedTrial
     CompletedTrial {
         number: 1,
         value: 2.0,
+    }
+}
+
+pub fn file_marks() -> DeFile
+    ensures { λ r. ⌜ r ≡ fileMarks ⌝ }
+{
+    DeFile {
+        kind: 1,
+        refusal: 2,
+        length: 3,
     }
 }

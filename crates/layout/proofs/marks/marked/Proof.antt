@@ -31,9 +31,12 @@ internal-marks-requires c κs = search needs
 completed-marks-requires : tie.Need-completed-marks-requires
 completed-marks-requires c κs = search needs
 
+file-marks-requires : tie.Need-file-marks-requires
+file-marks-requires c κs = search needs
+
 returns : tie.Need-returns
 unfolding marks
-returns c = rw (c .before .before .before .before .before .before .before .before .setup-marks .ensures, c .before .before .before .before .before .before .before .distribution-marks .ensures, c .before .before .before .before .before .before .marked-call .ensures, c .before .before .before .before .before .look-marks .ensures, c .before .before .before .before .marked-state .ensures, c .before .before .before .answer-marks .ensures, c .before .before .setting-marks .ensures, c .before .internal-marks .ensures, c .completed-marks .ensures)
+returns c = rw (c .before .before .before .before .before .before .before .before .before .setup-marks .ensures, c .before .before .before .before .before .before .before .before .distribution-marks .ensures, c .before .before .before .before .before .before .before .marked-call .ensures, c .before .before .before .before .before .before .look-marks .ensures, c .before .before .before .before .before .marked-state .ensures, c .before .before .before .before .answer-marks .ensures, c .before .before .before .setting-marks .ensures, c .before .before .internal-marks .ensures, c .before .completed-marks .ensures, c .file-marks .ensures)
 
 pub marked-spec : {M : Type 1} → statement M
 marked-spec =
@@ -48,4 +51,5 @@ marked-spec =
     setting-marks-requires
     internal-marks-requires
     completed-marks-requires
+    file-marks-requires
     returns)
