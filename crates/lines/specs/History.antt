@@ -8,7 +8,7 @@ use lib.ListN.{take}
 use Rattle.history.specs.Scan.{trialsOf}
 use Rattle.history.specs.declared.CompletedTrial.{CompletedTrial}
 use Rattle.script.specs.declared.command.Command.{Command}
-use Rattle.script.specs.declared.command.Command.the-variants.{Skip, Malformed, New, Clear, Tell, Sample, Look, State}
+use Rattle.script.specs.declared.command.Command.the-variants.{Skip, Malformed, New, Clear, Tell, Sample, Look, State, Save, Restore, Bytes, File, Put}
 use Rattle.lines.specs.declared.told.Heard.{Heard}
 use Rattle.lines.specs.declared.told.Heard.the-variants.{Quiet, Ask}
 
@@ -16,21 +16,9 @@ use Rattle.lines.specs.declared.told.Heard.the-variants.{Quiet, Ask}
 abbrev pub historyIn : List ℕ → List Float → ℕ → List CompletedTrial
 historyIn numbers values n = trialsOf (take n numbers) (take n values)
 
--- one entry more than n, where there is room for it
-abbrev pub toldTo : ℕ → ℕ → Heard
-toldTo room n = cond (ltb n room) (Quiet (n + 1)) (Ask Malformed)
-
--- what a command comes to where the history has n entries: the number of entries after it, or the command itself;
--- "more than 65,536 entries in the history count as malformed"
-abbrev pub heardOf : ℕ → Command → Heard
-heardOf n Skip = Quiet n
-heardOf n Clear = Quiet 0
-heardOf n (Tell number value) = toldTo 65536 n
-heardOf n Malformed = Ask Malformed
-heardOf n (New setup) = Ask (New setup)
-heardOf n (Sample number distribution) = Ask (Sample number distribution)
-heardOf n Look = Ask Look
-heardOf n State = Ask State
+-- one entry more than n, where there is room for it; l is the kept file's length, which stays
+abbrev pub toldTo : ℕ → ℕ → ℕ → Heard
+toldTo room n l = cond (ltb n room) (Quiet (n + 1) l) (Ask Malformed)
 
 -- "`clear` empties the history", "`tell` appends an entry"
 abbrev pub historyAfter : Command → List CompletedTrial → List CompletedTrial
@@ -42,3 +30,8 @@ historyAfter (New setup) h = h
 historyAfter (Sample number distribution) h = h
 historyAfter Look h = h
 historyAfter State h = h
+historyAfter Save h = h
+historyAfter Restore h = h
+historyAfter Bytes h = h
+historyAfter (File length) h = h
+historyAfter (Put at) h = h

@@ -1,2 +1,4 @@
 pub mod History
+pub mod Kept
+pub mod Hearing
 pub mod Reading

@@ -12,9 +12,9 @@ ShortLine Malformed = Unit {0}
 ShortLine End = Unit {0}
 ShortLine Failed = Unit {0}
 
--- a line that concerns the history alone is settled, and never handed on
+-- a line that concerns the history or the kept file alone is settled, and never handed on
 abbrev pub HandedOn : Heard → Type 0
-HandedOn (H.Quiet n) = ⊥
+HandedOn (H.Quiet n l) = ⊥
 HandedOn (H.Ask c) = Unit {0}
 HandedOn H.End = Unit {0}
 HandedOn H.Failed = Unit {0}

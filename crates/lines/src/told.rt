@@ -1,12 +1,15 @@
-// The history: what the `tell` lines said, a number and a value for each entry. Lines that concern it alone are settled
-// here, so that the sampler's state is handed on only where a line asks for it.
+// The history: what the `tell` lines said, a number and a value for each entry. Lines that concern it or the kept file
+// alone are settled here, so that the sampler's state is handed on only where a line asks for it.
 ghost use Prim.Native.Nat.{ℕ, min};
 ghost use mathlib.Core.Path.{_≡_};
 ghost use lib.ListN.{length, take};
 ghost use Rattle.script.specs.Commands.{commandOf};
 ghost use Rattle.script.specs.declared.command.Command.the-variants.{Tell};
 ghost use Rattle.lines.specs.Reading.{HandedOn};
-ghost use Rattle.lines.specs.History.{historyIn, heardOf, toldTo, historyAfter};
+ghost use Rattle.lines.specs.History.{historyIn, toldTo, historyAfter};
+ghost use Rattle.lines.specs.Hearing.{held, Hears};
+use crate::kept::make;
+use crate::kept::put;
 use crate::reader::Cursor;
 use crate::reader::Line;
 use crate::reader::next_line;
@@ -14,8 +17,8 @@ use script::Command;
 
 // What a line comes to.
 pub enum Heard {
-    // The history has so many entries now, and nothing is asked.
-    Quiet(usize),
+    // The history has so many entries now, the kept file so many bytes, and nothing is asked.
+    Quiet { count: usize, length: usize },
     // A command for the sampler, or a malformed line.
     Ask(Command),
     // The script has ended.
@@ -24,30 +27,45 @@ pub enum Heard {
     Failed,
 }
 
-// What is asked, where the reader stands after it, and how many entries the history has.
+// What is asked, where the reader stands after it, how many entries the history has, and how many bytes the kept file.
 pub struct Asked {
     pub heard: Heard,
     pub cursor: Cursor,
     pub count: usize,
+    pub length: usize,
 }
 
 // Appends an entry, where there is a place.
-fn tell(numbers: &mut [u64], values: &mut [f64], count: usize, number: u64, value: f64) -> Heard
-    ensures { λ r. ⌜ r ≡ toldTo (min (length (now (numbers .entry))) (length (now (values .entry)))) count ⌝ }
-    ensures { λ r. ⌜ ((m : ℕ) → r ≡ Heard.Quiet m → historyIn (now (numbers .exit)) (now (values .exit)) m ≡ historyAfter (Tell number value) (historyIn (now (numbers .entry)) (now (values .entry)) count)) ⌝ }
+fn tell(
+    numbers: &mut [u64],
+    values: &mut [f64],
+    count: usize,
+    kept: usize,
+    number: u64,
+    value: f64,
+) -> Heard
+    ensures { λ r. ⌜ r ≡ toldTo (min (length (now (numbers .entry))) (length (now (values .entry)))) count kept ⌝ }
+    ensures { λ r.
+        let after = historyAfter (Tell number value) (historyIn (now (numbers .entry)) (now (values .entry)) count) in
+        ⌜ ((m k : ℕ) → r ≡ Heard.Quiet m k → historyIn (now (numbers .exit)) (now (values .exit)) m ≡ after) ⌝ }
+    ensures { λ r.
+        ⌜ ((c : Command) → r ≡ Heard.Ask c → (now (numbers .exit) ≡ now (numbers .entry)) × (now (values .exit) ≡ now (values .entry))) ⌝ }
 {
     if count < numbers.len() {
         if count < values.len() {
             numbers[count] = number;
             values[count] = value;
-            return Heard::Quiet(count + 1);
+            return Heard::Quiet {
+                count: count + 1,
+                length: kept,
+            };
         }
     }
     Heard::Ask(Command::Malformed)
 }
 
 // The first n bytes, all where there are fewer.
-fn first(line: &[u8], n: usize) -> &[u8]
+pub fn first(line: &[u8], n: usize) -> &[u8]
     ensures { λ r. ⌜ now r ≡ take n (now (line .entry)) ⌝ }
 {
     if n <= line.len() {
@@ -89,16 +107,23 @@ fn hear(
     n: usize,
     numbers: &mut [u64; 65536],
     values: &mut [f64; 65536],
+    file: &mut [u8; 81920],
     count: usize,
+    length: usize,
 ) -> Heard
-    ensures { λ r. ⌜ r ≡ heardOf count (commandOf (take n (now (line .entry)))) ⌝ }
-    ensures { λ r. ⌜ ((m : ℕ) → r ≡ Heard.Quiet m → historyIn (now (numbers .exit)) (now (values .exit)) m ≡ historyAfter (commandOf (take n (now (line .entry)))) (historyIn (now (numbers .entry)) (now (values .entry)) count)) ⌝ }
+    ensures { λ r.
+        let text = take n (now (line .entry)) in
+        let a = held (now (numbers .entry)) (now (values .entry)) (now (file .entry)) in
+        let b = held (now (numbers .exit)) (now (values .exit)) (now (file .exit)) in
+        ⌜ Hears text (commandOf text) count length a b r ⌝ }
 {
     let command = said(line, n);
     match command {
-        Command::Skip => Heard::Quiet(count),
-        Command::Clear => Heard::Quiet(0),
-        Command::Tell { number, value } => tell(numbers, values, count, number, value),
+        Command::Skip => Heard::Quiet { count, length },
+        Command::Clear => Heard::Quiet { count: 0, length },
+        Command::Tell { number, value } => tell(numbers, values, count, length, number, value),
+        Command::File(bytes) => make(file, count, bytes),
+        Command::Put(at) => put(first(line, n), file, count, length, at),
         _ => Heard::Ask(command),
     }
 }
@@ -109,10 +134,12 @@ fn hear_fetched(
     line: &[u8; 512],
     numbers: &mut [u64; 65536],
     values: &mut [f64; 65536],
+    file: &mut [u8; 81920],
     count: usize,
+    length: usize,
 ) -> Heard {
     match fetched {
-        Line::Whole(n) => hear(line, n, numbers, values, count),
+        Line::Whole(n) => hear(line, n, numbers, values, file, count, length),
         Line::Malformed => Heard::Ask(Command::Malformed),
         Line::End => Heard::End,
         Line::Failed => Heard::Failed,
@@ -126,32 +153,38 @@ pub fn next_asked(
     line: &mut [u8; 512],
     numbers: &mut [u64; 65536],
     values: &mut [f64; 65536],
+    file: &mut [u8; 81920],
     cursor: Cursor,
     count: usize,
+    length: usize,
 ) -> Asked
     ensures { λ r. ⌜ HandedOn (r .heard) ⌝ }
 {
     let mut c = cursor;
     let mut n = count;
+    let mut l = length;
     let mut turns = u64::MAX;
     while turns > 0 {
         let f = next_line(input, line, c);
         c = f.cursor;
         let fetched = f.line;
-        let heard = hear_fetched(fetched, line, numbers, values, n);
-        let Heard::Quiet(k) = heard else {
+        let heard = hear_fetched(fetched, line, numbers, values, file, n, l);
+        let Heard::Quiet { count, length } = heard else {
             return Asked {
                 heard,
                 cursor: c,
                 count: n,
+                length: l,
             };
         };
-        n = k;
+        n = count;
+        l = length;
         turns -= 1;
     }
     Asked {
         heard: Heard::End,
         cursor: c,
         count: n,
+        length: l,
     }
 }

@@ -12,11 +12,12 @@ use Rattle.distribution.specs.declared.IntStep.the-variants as IntStep
 use Rattle.evolution.specs.declared.DEStrategy.the-variants.{CurrentToBest1, Rand1}
 use Rattle.evolution.specs.declared.PopulationSize.the-variants as Size
 use Rattle.numbers.specs.Numbers.{digitOf, allDigits, speltAfter, wholeOf, patternOf, realIf, doubleOf, plain, negated, intIf, intOf}
-use Rattle.script.specs.Words.{wordsOf, sameBytes, bytes}
+use Rattle.script.specs.Words.{wordsOf, wordAt, sameBytes, bytes}
 use Rattle.script.specs.Fields.{scaleOf, floatStepOf, intStepOf, strategyOf, sizeOf}
-use Rattle.script.specs.Commands.{newLine, bareLine, tellLine, sampleFloat, sampleInt, rangeLine, choiceLine, lineOf, commandOf}
+use Rattle.script.specs.Hex.{isHex, hexDigit, hexOf, putBytes, overwritten}
+use Rattle.script.specs.Commands.{newLine, bareLine, fileLine, tellLine, putLine, pairLine, sampleFloat, sampleInt, rangeLine, choiceLine, lineOf, commandOf}
 use Rattle.script.specs.declared.command.Command.{Command}
-use Rattle.script.specs.declared.command.Command.the-variants.{Skip, Malformed, New, Clear, Tell, Sample, Look, State}
+use Rattle.script.specs.declared.command.Command.the-variants.{Skip, Malformed, New, Clear, Tell, Sample, Look, State, Save, Restore, Bytes, File, Put}
 
 -- what each of some lines says
 said : List String → List Command
@@ -36,6 +37,11 @@ each-rule : said (
     ∷ "sample 7 choice 3"
     ∷ "look"
     ∷ "state"
+    ∷ "save"
+    ∷ "restore"
+    ∷ "bytes"
+    ∷ "file 0073120"
+    ∷ "put 30 0af0"
     ∷ []
     )
     ≡ Skip
@@ -68,8 +74,13 @@ each-rule : said (
     ∷ Sample 7 (Categorical (record { «n_choices» = 3 }))
     ∷ Look
     ∷ State
+    ∷ Save
+    ∷ Restore
+    ∷ Bytes
+    ∷ File 73120
+    ∷ Put 30
     ∷ []
-unfolding said commandOf lineOf newLine bareLine tellLine sampleFloat sampleInt rangeLine choiceLine scaleOf floatStepOf intStepOf strategyOf sizeOf wordsOf sameBytes digitOf allDigits speltAfter wholeOf patternOf realIf doubleOf plain negated intIf intOf ofBits ofFields
+unfolding said commandOf lineOf newLine bareLine fileLine tellLine putLine pairLine isHex sampleFloat sampleInt rangeLine choiceLine scaleOf floatStepOf intStepOf strategyOf sizeOf wordsOf sameBytes digitOf allDigits speltAfter wholeOf patternOf realIf doubleOf plain negated intIf intOf ofBits ofFields
 each-rule = refl
 
 -- a space too many, a word too many or too few, a digit in the wrong case, a pattern too short, numbers that do not fit, words that are no keyword
@@ -91,8 +102,27 @@ each-breaks-one : said (
     ∷ "sample 7 float 0000000000000000 3ff0000000000000 linear -"
     ∷ "sample 7 choice 3 -"
     ∷ "Look"
+    ∷ "save 1"
+    ∷ "file"
+    ∷ "file -1"
+    ∷ "put 30"
+    ∷ "put 30 "
+    ∷ "put 30 0"
+    ∷ "put 30 0af"
+    ∷ "put 30 0A"
+    ∷ "put 30 0g"
+    ∷ "put 18446744073709551616 00"
     ∷ []
     )
-    ≡ replicate 17 Malformed
-unfolding said commandOf lineOf newLine bareLine tellLine sampleFloat sampleInt rangeLine choiceLine scaleOf floatStepOf intStepOf strategyOf sizeOf wordsOf sameBytes digitOf allDigits speltAfter wholeOf patternOf realIf doubleOf plain negated intIf intOf ofBits ofFields
+    ≡ replicate 27 Malformed
+unfolding said commandOf lineOf newLine bareLine fileLine tellLine putLine pairLine isHex sampleFloat sampleInt rangeLine choiceLine scaleOf floatStepOf intStepOf strategyOf sizeOf wordsOf sameBytes digitOf allDigits speltAfter wholeOf patternOf realIf doubleOf plain negated intIf intOf ofBits ofFields
 each-breaks-one = refl
+
+-- the bytes of a `put` line, and where they go
+put-bytes : putBytes (bytes "put 1 0af09f") ≡ 0x0a ∷ 0xf0 ∷ 0x9f ∷ []
+unfolding wordsOf wordAt hexOf hexDigit digitOf
+put-bytes = refl
+
+put-there : overwritten 1 (putBytes (bytes "put 1 0af0")) (7 ∷ 7 ∷ 7 ∷ 7 ∷ []) ≡ 7 ∷ 10 ∷ 240 ∷ 7 ∷ []
+unfolding wordsOf wordAt hexOf hexDigit digitOf overwritten
+put-there = refl

@@ -1,4 +1,5 @@
 pub mod Cut
 pub mod Same
+pub mod Digits
 pub mod Line
 pub mod Examples

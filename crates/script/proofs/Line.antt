@@ -7,7 +7,7 @@ use native.Mathlib.Omega.{arith}
 use lib.ListN.{length, getD}
 use borrow.Author.Tests.{eq-eqb, ne-eqb}
 use Rattle.script.specs.Words.{wordsOf, wordAt}
-use Rattle.script.specs.Commands.{bareLine, tellLine, choiceLine, newLine, rangeLine, lineOf, commandOf}
+use Rattle.script.specs.Commands.{bareLine, fileLine, pairLine, choiceLine, newLine, rangeLine, lineOf, commandOf}
 use Rattle.script.specs.declared.command.Command.the-variants.{Skip, Malformed}
 
 -- n words of a list, from the i-th on
@@ -50,7 +50,11 @@ module _ (line : List ℕ) (h : 0 < length line) (g : getD line 0 0 ≡ code "#"
   unfolding lineOf picked wordAt
   line-of-1 n = words-are 1 n
 
-  pub line-of-3 : 3 ≡ length (wordsOf line) → tellLine (wordAt line 0) (wordAt line 1) (wordAt line 2) ≡ commandOf line
+  pub line-of-2 : 2 ≡ length (wordsOf line) → fileLine (wordAt line 0) (wordAt line 1) ≡ commandOf line
+  unfolding lineOf picked wordAt
+  line-of-2 n = words-are 2 n
+
+  pub line-of-3 : 3 ≡ length (wordsOf line) → pairLine (wordAt line 0) (wordAt line 1) (wordAt line 2) ≡ commandOf line
   unfolding lineOf picked wordAt
   line-of-3 n = words-are 3 n
 
@@ -69,18 +73,18 @@ module _ (line : List ℕ) (h : 0 < length line) (g : getD line 0 0 ≡ code "#"
   line-of-7 n = words-are 7 n
 
 -- no rule has another number of words
-unruled : (ws : List (List ℕ)) → (length ws ≡ 1 → ⊥) → (length ws ≡ 3 → ⊥) → (length ws ≡ 4 → ⊥) → (length ws ≡ 6 → ⊥) → (length ws ≡ 7 → ⊥) → Malformed ≡ lineOf ws
+unruled : (ws : List (List ℕ)) → (length ws ≡ 1 → ⊥) → (length ws ≡ 2 → ⊥) → (length ws ≡ 3 → ⊥) → (length ws ≡ 4 → ⊥) → (length ws ≡ 6 → ⊥) → (length ws ≡ 7 → ⊥) → Malformed ≡ lineOf ws
 unfolding lineOf
-unruled [] n₁ n₃ n₄ n₆ n₇ = refl
-unruled (a ∷ []) n₁ n₃ n₄ n₆ n₇ = absurd (n₁ refl)
-unruled (a ∷ b ∷ []) n₁ n₃ n₄ n₆ n₇ = refl
-unruled (a ∷ b ∷ c ∷ []) n₁ n₃ n₄ n₆ n₇ = absurd (n₃ refl)
-unruled (a ∷ b ∷ c ∷ d ∷ []) n₁ n₃ n₄ n₆ n₇ = absurd (n₄ refl)
-unruled (a ∷ b ∷ c ∷ d ∷ e ∷ []) n₁ n₃ n₄ n₆ n₇ = refl
-unruled (a ∷ b ∷ c ∷ d ∷ e ∷ f ∷ []) n₁ n₃ n₄ n₆ n₇ = absurd (n₆ refl)
-unruled (a ∷ b ∷ c ∷ d ∷ e ∷ f ∷ g ∷ []) n₁ n₃ n₄ n₆ n₇ = absurd (n₇ refl)
-unruled (a ∷ b ∷ c ∷ d ∷ e ∷ f ∷ g ∷ h ∷ ws) n₁ n₃ n₄ n₆ n₇ = refl
+unruled [] n₁ n₂ n₃ n₄ n₆ n₇ = refl
+unruled (a ∷ []) n₁ n₂ n₃ n₄ n₆ n₇ = absurd (n₁ refl)
+unruled (a ∷ b ∷ []) n₁ n₂ n₃ n₄ n₆ n₇ = absurd (n₂ refl)
+unruled (a ∷ b ∷ c ∷ []) n₁ n₂ n₃ n₄ n₆ n₇ = absurd (n₃ refl)
+unruled (a ∷ b ∷ c ∷ d ∷ []) n₁ n₂ n₃ n₄ n₆ n₇ = absurd (n₄ refl)
+unruled (a ∷ b ∷ c ∷ d ∷ e ∷ []) n₁ n₂ n₃ n₄ n₆ n₇ = refl
+unruled (a ∷ b ∷ c ∷ d ∷ e ∷ f ∷ []) n₁ n₂ n₃ n₄ n₆ n₇ = absurd (n₆ refl)
+unruled (a ∷ b ∷ c ∷ d ∷ e ∷ f ∷ g ∷ []) n₁ n₂ n₃ n₄ n₆ n₇ = absurd (n₇ refl)
+unruled (a ∷ b ∷ c ∷ d ∷ e ∷ f ∷ g ∷ h ∷ ws) n₁ n₂ n₃ n₄ n₆ n₇ = refl
 
-pub no-rule : (line : List ℕ) → 0 < length line → (getD line 0 0 ≡ code "#" → ⊥) → (length (wordsOf line) ≡ 1 → ⊥) → (length (wordsOf line) ≡ 3 → ⊥)
-    → (length (wordsOf line) ≡ 4 → ⊥) → (length (wordsOf line) ≡ 6 → ⊥) → (length (wordsOf line) ≡ 7 → ⊥) → Malformed ≡ commandOf line
-no-rule line h g n₁ n₃ n₄ n₆ n₇ = unruled (wordsOf line) n₁ n₃ n₄ n₆ n₇ ∙ said line h g
+pub no-rule : (line : List ℕ) → 0 < length line → (getD line 0 0 ≡ code "#" → ⊥) → (length (wordsOf line) ≡ 1 → ⊥) → (length (wordsOf line) ≡ 2 → ⊥)
+    → (length (wordsOf line) ≡ 3 → ⊥) → (length (wordsOf line) ≡ 4 → ⊥) → (length (wordsOf line) ≡ 6 → ⊥) → (length (wordsOf line) ≡ 7 → ⊥) → Malformed ≡ commandOf line
+no-rule line h g n₁ n₂ n₃ n₄ n₆ n₇ = unruled (wordsOf line) n₁ n₂ n₃ n₄ n₆ n₇ ∙ said line h g

@@ -6,9 +6,10 @@ use mathlib.Core.List.{List, [], _∷_}
 use lib.Dec.{eqb}
 use Rattle.distribution.specs.declared.Distribution.the-variants.{Float, Int, Categorical}
 use Rattle.script.specs.Words.{wordsOf, is}
+use Rattle.script.specs.Hex.{isHex}
 use Rattle.script.specs.Reads.{readWhole, readDouble, readInt, readScale, readFloatStep, readIntStep, readStrategy, readSize}
 use Rattle.script.specs.declared.command.Command.{Command}
-use Rattle.script.specs.declared.command.Command.the-variants.{Skip, Malformed, New, Clear, Tell, Sample, Look, State}
+use Rattle.script.specs.declared.command.Command.the-variants.{Skip, Malformed, New, Clear, Tell, Sample, Look, State, Save, Restore, Bytes, File, Put}
 
 -- the line, where its keywords are right
 abbrev pub when : Bool → Command → Command
@@ -27,13 +28,31 @@ newLine key f cr strategy size seed =
       seed = word;
     })))))))
 
--- `clear`, `look`, `state`
+-- `clear`, `look`, `state`, `save`, `restore`, `bytes`
 unfoldable pub bareLine : List ℕ → Command
-bareLine key = cond (is key "clear") Clear (cond (is key "look") Look (cond (is key "state") State Malformed))
+bareLine key =
+    cond (is key "clear") Clear
+    (cond (is key "look") Look
+    (cond (is key "state") State
+    (cond (is key "save") Save
+    (cond (is key "restore") Restore
+    (cond (is key "bytes") Bytes Malformed)))))
+
+-- `file LENGTH`
+unfoldable pub fileLine : List ℕ → List ℕ → Command
+fileLine key length = when (is key "file") (readWhole length (λ n. File n))
 
 -- `tell TRIAL VALUE`
-unfoldable pub tellLine : List ℕ → List ℕ → List ℕ → Command
-tellLine key trial value = when (is key "tell") (readWhole trial (λ number. readDouble value (λ x. Tell number x)))
+unfoldable pub tellLine : List ℕ → List ℕ → Command
+tellLine trial value = readWhole trial (λ number. readDouble value (λ x. Tell number x))
+
+-- `put OFFSET HEX`
+unfoldable pub putLine : List ℕ → List ℕ → Command
+putLine offset hex = readWhole offset (λ at. when (isHex hex) (Put at))
+
+-- one of the two
+unfoldable pub pairLine : List ℕ → List ℕ → List ℕ → Command
+pairLine key a b = cond (is key "tell") (tellLine a b) (cond (is key "put") (putLine a b) Malformed)
 
 -- `sample TRIAL float LOW HIGH SCALE STEP`
 unfoldable pub sampleFloat : List ℕ → List ℕ → List ℕ → List ℕ → List ℕ → Command
@@ -64,8 +83,8 @@ choiceLine key trial kind count =
 unfoldable pub lineOf : List (List ℕ) → Command
 lineOf [] = Malformed
 lineOf (key ∷ []) = bareLine key
-lineOf (key ∷ a ∷ []) = Malformed
-lineOf (key ∷ trial ∷ value ∷ []) = tellLine key trial value
+lineOf (key ∷ length ∷ []) = fileLine key length
+lineOf (key ∷ a ∷ b ∷ []) = pairLine key a b
 lineOf (key ∷ trial ∷ kind ∷ count ∷ []) = choiceLine key trial kind count
 lineOf (key ∷ a ∷ b ∷ c ∷ d ∷ []) = Malformed
 lineOf (key ∷ f ∷ cr ∷ strategy ∷ size ∷ seed ∷ []) = newLine key f cr strategy size seed

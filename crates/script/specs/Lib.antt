@@ -1,4 +1,5 @@
 pub mod Words
 pub mod Fields
+pub mod Hex
 pub mod Reads
 pub mod Commands

@@ -1,7 +1,7 @@
 // What a line says: a function for each number of words that a rule has.
 ghost use mathlib.Core.Path.{_≡_};
 ghost use Rattle.script.specs.Words.{wordAt};
-ghost use Rattle.script.specs.Commands.{newLine, bareLine, tellLine, sampleFloat, sampleInt, rangeLine, choiceLine, commandOf};
+ghost use Rattle.script.specs.Commands.{newLine, bareLine, fileLine, tellLine, putLine, pairLine, sampleFloat, sampleInt, rangeLine, choiceLine, commandOf};
 use crate::fields::FloatStepWord;
 use crate::fields::IntStepWord;
 use crate::fields::ScaleWord;
@@ -16,6 +16,7 @@ use crate::fields::scale_at;
 use crate::fields::size_at;
 use crate::fields::strategy_at;
 use crate::fields::whole_at;
+use crate::hex::hex_at;
 use crate::words::count;
 use distribution::CategoricalDistribution;
 use distribution::Distribution;
@@ -43,6 +44,13 @@ pub enum Command {
     },
     Look,
     State,
+    Save,
+    Restore,
+    Bytes,
+    // So many zero bytes.
+    File(u64),
+    // The place of the first byte; the bytes are in the line (`put_bytes`).
+    Put(u64),
 }
 
 // `new F CR STRATEGY SIZE SEED`.
@@ -76,7 +84,7 @@ fn new(line: &[u8]) -> Command
     Command::Malformed
 }
 
-// `clear`, `look` and `state`.
+// `clear`, `look`, `state`, `save`, `restore` and `bytes`.
 fn bare(line: &[u8]) -> Command
     ensures { λ r. ⌜ r ≡ bareLine (wordAt (now (line .entry)) 0) ⌝ }
 {
@@ -89,21 +97,66 @@ fn bare(line: &[u8]) -> Command
     if key_is(line, 0, b"state") {
         return Command::State;
     }
+    if key_is(line, 0, b"save") {
+        return Command::Save;
+    }
+    if key_is(line, 0, b"restore") {
+        return Command::Restore;
+    }
+    if key_is(line, 0, b"bytes") {
+        return Command::Bytes;
+    }
     Command::Malformed
 }
 
-// `tell TRIAL VALUE`.
+// `file LENGTH`.
+fn file(line: &[u8]) -> Command
+    ensures { λ r. let w = wordAt (now (line .entry)) in ⌜ r ≡ fileLine (w 0) (w 1) ⌝ }
+{
+    if key_is(line, 0, b"file") {
+        let WholeWord::Is(length) = whole_at(line, 1) else {
+            return Command::Malformed;
+        };
+        return Command::File(length);
+    }
+    Command::Malformed
+}
+
+// `tell TRIAL VALUE`, its keyword seen.
 fn tell(line: &[u8]) -> Command
-    ensures { λ r. let w = wordAt (now (line .entry)) in ⌜ r ≡ tellLine (w 0) (w 1) (w 2) ⌝ }
+    ensures { λ r. let w = wordAt (now (line .entry)) in ⌜ r ≡ tellLine (w 1) (w 2) ⌝ }
+{
+    let WholeWord::Is(number) = whole_at(line, 1) else {
+        return Command::Malformed;
+    };
+    let DoubleWord::Is(value) = double_at(line, 2) else {
+        return Command::Malformed;
+    };
+    Command::Tell { number, value }
+}
+
+// `put OFFSET HEX`, its keyword seen.
+fn put(line: &[u8]) -> Command
+    ensures { λ r. let w = wordAt (now (line .entry)) in ⌜ r ≡ putLine (w 1) (w 2) ⌝ }
+{
+    let WholeWord::Is(offset) = whole_at(line, 1) else {
+        return Command::Malformed;
+    };
+    if hex_at(line, 2) {
+        return Command::Put(offset);
+    }
+    Command::Malformed
+}
+
+// A line of three words.
+fn pair(line: &[u8]) -> Command
+    ensures { λ r. let w = wordAt (now (line .entry)) in ⌜ r ≡ pairLine (w 0) (w 1) (w 2) ⌝ }
 {
     if key_is(line, 0, b"tell") {
-        let WholeWord::Is(number) = whole_at(line, 1) else {
-            return Command::Malformed;
-        };
-        let DoubleWord::Is(value) = double_at(line, 2) else {
-            return Command::Malformed;
-        };
-        return Command::Tell { number, value };
+        return tell(line);
+    }
+    if key_is(line, 0, b"put") {
+        return put(line);
     }
     Command::Malformed
 }
@@ -221,8 +274,11 @@ pub fn parse(line: &[u8]) -> Command
     if n == 1 {
         return bare(line);
     }
+    if n == 2 {
+        return file(line);
+    }
     if n == 3 {
-        return tell(line);
+        return pair(line);
     }
     if n == 4 {
         return choice(line);

@@ -13,10 +13,10 @@ use Rattle.lines.proofs.told.next_asked.Statement.{statement}
 use Rattle.lines.proofs.told.next_asked.Tie as tie
 
 abbrev Inv-loop : tie.InvT-loop
-Inv-loop input₀ line₀ numbers₀ values₀ count c₀ n₀ turns₀ input line numbers values c n turns = Unit {0}
+Inv-loop input₀ line₀ numbers₀ values₀ file₀ count length c₀ n₀ l₀ turns₀ input line numbers values file c n l turns = Unit {0}
 
 abbrev μ-loop : tie.MeasureT-loop
-μ-loop input₀ line₀ numbers₀ values₀ count c₀ n₀ turns₀ input line numbers values c n turns = turns
+μ-loop input₀ line₀ numbers₀ values₀ file₀ count length c₀ n₀ l₀ turns₀ input line numbers values file c n l turns = turns
 
 loop-holds : tie.Need-loop-holds Inv-loop μ-loop
 loop-holds c = tt
@@ -31,7 +31,7 @@ enum-known-heard : tie.Need-enum-known-heard Inv-loop μ-loop
 enum-known-heard c = search needs
 
 handed-on : (h : Heard) → OneOf (1 ∷ 2 ∷ 3 ∷ []) (tagOf told.the-type h) → HandedOn h
-handed-on (H.Quiet n) k = no k
+handed-on (H.Quiet n l) k = no k
   where
     no : OneOf (1 ∷ 2 ∷ 3 ∷ []) 0 → ⊥
     no (inl e) = omega (arith, e)

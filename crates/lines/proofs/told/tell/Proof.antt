@@ -3,17 +3,11 @@ use mathlib.Core.Path.{_≡_, refl}
 use Prim.Native.Nat.{ℕ, min}
 use native.Mathlib.Omega.{arith}
 use lib.ListN.{length}
-use borrow.Author.Needs.{needs}
 use borrow.Author.Tests.{lt-ltb, le-ltb}
-use Rattle.script.specs.declared.command.Command.the-variants.{Malformed}
-use Rattle.lines.specs.declared.told.Heard.the-variants.{Quiet, Ask}
-use Rattle.lines.proofs.Hearing.{appended}
+use Rattle.lines.proofs.Hearing.{appended, no-quiet, no-ask}
+use borrow.Author.Needs.{needs}
 use Rattle.lines.proofs.told.tell.Statement.{statement}
 use Rattle.lines.proofs.told.tell.Tie as tie
-
--- nothing is quiet about a full array
-no-quiet : {A : Type 0} (m : ℕ) → Ask Malformed ≡ Quiet m → A
-no-quiet m q = let z : _≡_ {A = ℕ} 0 1 = cc in absurd (omega arith)
 
 mul-numbers : tie.Need-mul-numbers
 mul-numbers c = search needs
@@ -27,8 +21,8 @@ mul-values c = search needs
 slice-write-values : tie.Need-slice-write-values
 slice-write-values c = search needs
 
-add-t10 : tie.Need-add-t10
-add-t10 c = search needs
+add-t11 : tie.Need-add-t11
+add-t11 c = search needs
 
 same-length : tie.Need-same-length
 same-length c = search needs
@@ -43,18 +37,22 @@ returns c =
     let vs = a .values .now in
     let k = a .count in (
       rw (lt-ltb k (min (length ns) (length vs)) (omega arith)) refl,
-      appended ns vs k (a .number) (a .value) (omega arith) (omega arith),
+      (appended ns vs k (a .number) (a .kept) (a .value) (omega arith) (omega arith), λ d q. no-ask _ _ d q),
     )
 
 returns-2 : tie.Need-returns-2
 returns-2 c =
-    let a = c .before .before .args in
-    (rw (le-ltb (a .count) (min (length (a .numbers .now)) (length (a .values .now))) (omega arith)) refl, λ m q. no-quiet m q)
+    let a = c .before .before .args in (
+      rw (le-ltb (a .count) (min (length (a .numbers .now)) (length (a .values .now))) (omega arith)) refl,
+      (λ m k q. no-quiet _ m k q, λ d q. (refl, refl)),
+    )
 
 returns-3 : tie.Need-returns-3
 returns-3 c =
-    let a = c .before .args in
-    (rw (le-ltb (a .count) (min (length (a .numbers .now)) (length (a .values .now))) (omega arith)) refl, λ m q. no-quiet m q)
+    let a = c .before .args in (
+      rw (le-ltb (a .count) (min (length (a .numbers .now)) (length (a .values .now))) (omega arith)) refl,
+      (λ m k q. no-quiet _ m k q, λ d q. (refl, refl)),
+    )
 
 pub tell-spec : {M : Type 1} → statement M
 tell-spec =
@@ -64,7 +62,7 @@ tell-spec =
     slice-write-numbers
     mul-values
     slice-write-values
-    add-t10
+    add-t11
     same-length
     same-length-2
     returns

@@ -22,7 +22,16 @@ key-is-requires-2 c κs = tt
 
 returns-2 : tie.Need-returns-2
 unfolding bareLine
-returns-2 c = rw (← c .before .before .before .before .key-is .ensures, c .before .before .before .if1 .left, ← c .before .key-is2 .ensures, c .if2 .taken)
+returns-2 c =
+    let c₁ = c .before in
+    let c₂ = c₁ .before .before in
+    let c₃ = c₂ .before in
+    rw (
+      ← c₃ .key-is .ensures,
+      c₂ .if1 .left,
+      ← c₁ .key-is2 .ensures,
+      c .if2 .taken,
+    )
 
 slice-aggregate-key-is-3 : tie.Need-slice-aggregate-key-is-3
 slice-aggregate-key-is-3 c = refl
@@ -38,7 +47,20 @@ returns-3 c =
     let c₃ = c₂ .before in
     let c₄ = c₃ .before .before in
     let c₅ = c₄ .before in
-    rw (← c₅ .key-is .ensures, c₄ .if1 .left, ← c₃ .key-is2 .ensures, c₂ .if2 .left, ← c₁ .key-is3 .ensures, c .if3 .taken)
+    rw (
+      ← c₅ .key-is .ensures,
+      c₄ .if1 .left,
+      ← c₃ .key-is2 .ensures,
+      c₂ .if2 .left,
+      ← c₁ .key-is3 .ensures,
+      c .if3 .taken,
+    )
+
+slice-aggregate-key-is-4 : tie.Need-slice-aggregate-key-is-4
+slice-aggregate-key-is-4 c = refl
+
+key-is-requires-4 : tie.Need-key-is-requires-4
+key-is-requires-4 c κs = tt
 
 returns-4 : tie.Need-returns-4
 unfolding bareLine
@@ -48,7 +70,113 @@ returns-4 c =
     let c₃ = c₂ .before in
     let c₄ = c₃ .before .before in
     let c₅ = c₄ .before in
-    rw (← c₅ .key-is .ensures, c₄ .if1 .left, ← c₃ .key-is2 .ensures, c₂ .if2 .left, ← c₁ .key-is3 .ensures, c .if3 .left)
+    let c₆ = c₅ .before .before in
+    let c₇ = c₆ .before in
+    rw (
+      ← c₇ .key-is .ensures,
+      c₆ .if1 .left,
+      ← c₅ .key-is2 .ensures,
+      c₄ .if2 .left,
+      ← c₃ .key-is3 .ensures,
+      c₂ .if3 .left,
+      ← c₁ .key-is4 .ensures,
+      c .if4 .taken,
+    )
+
+slice-aggregate-key-is-5 : tie.Need-slice-aggregate-key-is-5
+slice-aggregate-key-is-5 c = refl
+
+key-is-requires-5 : tie.Need-key-is-requires-5
+key-is-requires-5 c κs = tt
+
+returns-5 : tie.Need-returns-5
+unfolding bareLine
+returns-5 c =
+    let c₁ = c .before in
+    let c₂ = c₁ .before .before in
+    let c₃ = c₂ .before in
+    let c₄ = c₃ .before .before in
+    let c₅ = c₄ .before in
+    let c₆ = c₅ .before .before in
+    let c₇ = c₆ .before in
+    let c₈ = c₇ .before .before in
+    let c₉ = c₈ .before in
+    rw (
+      ← c₉ .key-is .ensures,
+      c₈ .if1 .left,
+      ← c₇ .key-is2 .ensures,
+      c₆ .if2 .left,
+      ← c₅ .key-is3 .ensures,
+      c₄ .if3 .left,
+      ← c₃ .key-is4 .ensures,
+      c₂ .if4 .left,
+      ← c₁ .key-is5 .ensures,
+      c .if5 .taken,
+    )
+
+slice-aggregate-key-is-6 : tie.Need-slice-aggregate-key-is-6
+slice-aggregate-key-is-6 c = refl
+
+key-is-requires-6 : tie.Need-key-is-requires-6
+key-is-requires-6 c κs = tt
+
+returns-6 : tie.Need-returns-6
+unfolding bareLine
+returns-6 c =
+    let c₁ = c .before in
+    let c₂ = c₁ .before .before in
+    let c₃ = c₂ .before in
+    let c₄ = c₃ .before .before in
+    let c₅ = c₄ .before in
+    let c₆ = c₅ .before .before in
+    let c₇ = c₆ .before in
+    let c₈ = c₇ .before .before in
+    let c₉ = c₈ .before in
+    let c₁₀ = c₉ .before .before in
+    let c₁₁ = c₁₀ .before in
+    rw (
+      ← c₁₁ .key-is .ensures,
+      c₁₀ .if1 .left,
+      ← c₉ .key-is2 .ensures,
+      c₈ .if2 .left,
+      ← c₇ .key-is3 .ensures,
+      c₆ .if3 .left,
+      ← c₅ .key-is4 .ensures,
+      c₄ .if4 .left,
+      ← c₃ .key-is5 .ensures,
+      c₂ .if5 .left,
+      ← c₁ .key-is6 .ensures,
+      c .if6 .taken,
+    )
+
+returns-7 : tie.Need-returns-7
+unfolding bareLine
+returns-7 c =
+    let c₁ = c .before in
+    let c₂ = c₁ .before .before in
+    let c₃ = c₂ .before in
+    let c₄ = c₃ .before .before in
+    let c₅ = c₄ .before in
+    let c₆ = c₅ .before .before in
+    let c₇ = c₆ .before in
+    let c₈ = c₇ .before .before in
+    let c₉ = c₈ .before in
+    let c₁₀ = c₉ .before .before in
+    let c₁₁ = c₁₀ .before in
+    rw (
+      ← c₁₁ .key-is .ensures,
+      c₁₀ .if1 .left,
+      ← c₉ .key-is2 .ensures,
+      c₈ .if2 .left,
+      ← c₇ .key-is3 .ensures,
+      c₆ .if3 .left,
+      ← c₅ .key-is4 .ensures,
+      c₄ .if4 .left,
+      ← c₃ .key-is5 .ensures,
+      c₂ .if5 .left,
+      ← c₁ .key-is6 .ensures,
+      c .if6 .left,
+    )
 
 pub bare-spec : {M : Type 1} → statement M
 bare-spec =
@@ -63,4 +191,13 @@ bare-spec =
     slice-aggregate-key-is-3
     key-is-requires-3
     returns-3
-    returns-4)
+    slice-aggregate-key-is-4
+    key-is-requires-4
+    returns-4
+    slice-aggregate-key-is-5
+    key-is-requires-5
+    returns-5
+    slice-aggregate-key-is-6
+    key-is-requires-6
+    returns-6
+    returns-7)

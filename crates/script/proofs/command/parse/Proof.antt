@@ -1,5 +1,5 @@
 -- The number of words decides the rule: the laws of `Line`.
-use Rattle.script.proofs.Line.{empty-line, comment, line-of-1, line-of-3, line-of-4, line-of-6, line-of-7, no-rule}
+use Rattle.script.proofs.Line.{empty-line, comment, line-of-1, line-of-2, line-of-3, line-of-4, line-of-6, line-of-7, no-rule}
 use mathlib.Core.Path.{_∙_}
 use native.Mathlib.Omega.{arith}
 use borrow.Author.Needs.{needs}
@@ -24,32 +24,38 @@ bare-requires c κs = tt
 returns-3 : tie.Need-returns-3
 returns-3 c = c .bare .ensures ∙ line-of-1 _ (search needs) (c .before .before .before .if2 .left) (omega arith)
 
-tell-requires : tie.Need-tell-requires
-tell-requires c κs = tt
+file-requires : tie.Need-file-requires
+file-requires c κs = tt
 
 returns-4 : tie.Need-returns-4
-returns-4 c = c .tell .ensures ∙ line-of-3 _ (search needs) (c .before .before .before .before .if2 .left) (omega arith)
+returns-4 c = c .file .ensures ∙ line-of-2 _ (search needs) (c .before .before .before .before .if2 .left) (omega arith)
+
+pair-requires : tie.Need-pair-requires
+pair-requires c κs = tt
+
+returns-5 : tie.Need-returns-5
+returns-5 c = c .pair .ensures ∙ line-of-3 _ (search needs) (c .before .before .before .before .before .if2 .left) (omega arith)
 
 choice-requires : tie.Need-choice-requires
 choice-requires c κs = tt
 
-returns-5 : tie.Need-returns-5
-returns-5 c = c .choice .ensures ∙ line-of-4 _ (search needs) (c .before .before .before .before .before .if2 .left) (omega arith)
+returns-6 : tie.Need-returns-6
+returns-6 c = c .choice .ensures ∙ line-of-4 _ (search needs) (c .before .before .before .before .before .before .if2 .left) (omega arith)
 
 new-requires : tie.Need-new-requires
 new-requires c κs = tt
 
-returns-6 : tie.Need-returns-6
-returns-6 c = c .new .ensures ∙ line-of-6 _ (search needs) (c .before .before .before .before .before .before .if2 .left) (omega arith)
+returns-7 : tie.Need-returns-7
+returns-7 c = c .new .ensures ∙ line-of-6 _ (search needs) (c .before .before .before .before .before .before .before .if2 .left) (omega arith)
 
 range-requires : tie.Need-range-requires
 range-requires c κs = tt
 
-returns-7 : tie.Need-returns-7
-returns-7 c = c .range .ensures ∙ line-of-7 _ (search needs) (c .before .before .before .before .before .before .before .if2 .left) (omega arith)
-
 returns-8 : tie.Need-returns-8
-returns-8 c = no-rule _ (search needs) (c .before .before .before .before .before .before .if2 .left) (λ e. omega arith) (λ e. omega arith) (λ e. omega arith) (λ e. omega arith) (λ e. omega arith)
+returns-8 c = c .range .ensures ∙ line-of-7 _ (search needs) (c .before .before .before .before .before .before .before .before .if2 .left) (omega arith)
+
+returns-9 : tie.Need-returns-9
+returns-9 c = no-rule _ (search needs) (c .before .before .before .before .before .before .before .if2 .left) (λ e. omega arith) (λ e. omega arith) (λ e. omega arith) (λ e. omega arith) (λ e. omega arith) (λ e. omega arith)
 
 pub parse-spec : {M : Type 1} → statement M
 parse-spec =
@@ -61,12 +67,14 @@ parse-spec =
     count-requires
     bare-requires
     returns-3
-    tell-requires
+    file-requires
     returns-4
-    choice-requires
+    pair-requires
     returns-5
-    new-requires
+    choice-requires
     returns-6
-    range-requires
+    new-requires
     returns-7
-    returns-8)
+    range-requires
+    returns-8
+    returns-9)
