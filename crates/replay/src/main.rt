@@ -1,19 +1,14 @@
 // Runs a campaign script: reads it from standard input, and writes a line for each line that asks something.
 // A program has no exit status of its own here: a malformed script shows in the last line, and a read or a write that
 // failed on standard error.
-mod rows;
-mod session;
-mod sink;
-mod whole;
-
-use crate::session::Run;
-use crate::session::Step;
-use crate::session::obey;
-use crate::sink::Sink;
+use asked::session::Run;
+use asked::session::Step;
+use asked::session::obey;
 use de::build::DESamplerBuilder;
 use libc::STDERR_FILENO;
 use lines::reader::Cursor;
 use lines::told::Heard;
+use printed::sink::Sink;
 use state::State;
 
 // A run that no further line is read for: the script has ended, or a read failed.
@@ -34,9 +29,10 @@ fn answer<'a>(
     heard: Heard,
     numbers: &'a [u64; 65536],
     values: &'a [f64; 65536],
+    file: &mut [u8; 81920],
 ) -> Step {
     match heard {
-        Heard::Ask(command) => obey(out, run, state, command, numbers, values),
+        Heard::Ask(command) => obey(out, run, state, command, numbers, values, file),
         _ => Step {
             state,
             run: stop(run, heard),
@@ -46,7 +42,7 @@ fn answer<'a>(
 
 // Writes what waits at the run's end.
 fn finish(out: &[u8; 8192], sink: Sink) {
-    let s = crate::sink::flush(out, sink);
+    let s = printed::sink::flush(out, sink);
     if !s.ok {
         io::write_all(
             STDERR_FILENO,
@@ -55,7 +51,7 @@ fn finish(out: &[u8; 8192], sink: Sink) {
     }
 }
 
-// What stands in the state's place before the first `new`: it is not read.
+// What stands in the state's place before the first `new` or `restore`: it is not read.
 fn no_state() -> State {
     let builder = DESamplerBuilder::new();
     let setup = builder.setup;
@@ -70,6 +66,7 @@ fn begin() -> Run {
             line: 0,
         },
         count: 0,
+        length: 0,
         sink: Sink { at: 0, ok: true },
         accepted: false,
         stopped: false,
@@ -77,10 +74,11 @@ fn begin() -> Run {
 }
 
 // The run once lines were taken in.
-fn taken(run: Run, cursor: Cursor, count: usize) -> Run {
+fn taken(run: Run, cursor: Cursor, count: usize, length: usize) -> Run {
     let mut r = run;
     r.cursor = cursor;
     r.count = count;
+    r.length = length;
     r
 }
 
@@ -98,6 +96,7 @@ fn main() {
     let mut line = [0u8; 512];
     let mut numbers = [0u64; 65536];
     let mut values = [0.0f64; 65536];
+    let mut file = [0u8; 81920];
     let mut out = [0u8; 8192];
     let mut state = no_state();
     let mut run = begin();
@@ -108,12 +107,14 @@ fn main() {
             &mut line,
             &mut numbers,
             &mut values,
+            &mut file,
             run.cursor,
             run.count,
+            run.length,
         );
-        run = taken(run, asked.cursor, asked.count);
+        run = taken(run, asked.cursor, asked.count, asked.length);
         let heard = asked.heard;
-        let step = answer(&mut out, run, state, heard, &numbers, &values);
+        let step = answer(&mut out, run, state, heard, &numbers, &values, &mut file);
         state = step.state;
         run = step.run;
         if over(run) {
