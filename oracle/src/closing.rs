@@ -112,6 +112,8 @@ impl Before {
         }
         drop(p);
         c.cleared = false;
+        counts.closed_stopped += u64::from(c.closed == u32::MAX);
+        counts.idle_stopped += u64::from(!first && !replaced && c.idle == u32::MAX);
         // Document 01's counters, which the Rust does not have.
         c.closed = c.closed.saturating_add(1);
         c.idle = if first || replaced { 0 } else { c.idle.saturating_add(1) };

@@ -47,7 +47,8 @@ impl fmt::Display for Totals {
             writeln!(f, "{count:>12}  {label}")?;
         }
         for (k, count) in self.counts.refused.iter().enumerate().filter(|(_, c)| **c > 0) {
-            writeln!(f, "{count:>12}  refusal {k} (by the table, not by the Rust)")?;
+            let by = if k < 12 { "the table" } else { "docs/SAVED.md" };
+            writeln!(f, "{count:>12}  refusal {k} (by {by}, not by the Rust)")?;
         }
         Ok(())
     }
@@ -210,18 +211,6 @@ fn compared(program: &str, promised: Receiver<Sent>, said: Receiver<Vec<u8>>) ->
         "{program} writes on after the last answer: {}",
         String::from_utf8_lossy(line_at(&ahead, 0))
     ))
-}
-
-/// The sections of a script: each but perhaps the first begins with a `new` line.
-pub fn sections(script: &[u8]) -> Vec<Vec<u8>> {
-    let mut all = vec![Vec::new()];
-    for line in script.split_inclusive(|&b| b == b'\n') {
-        if line.starts_with(b"new ") {
-            all.push(Vec::new());
-        }
-        all.last_mut().expect("one at least").extend_from_slice(line);
-    }
-    all
 }
 
 /// As far as both reach, they are the same.

@@ -84,10 +84,26 @@ impl Log {
                 };
                 self.told.insert(trial, told);
             }
+            Some(Command::Restore) if answer == b"restored\n" => self.restored(),
             Some(Command::Sample { trial, .. }) if !answer.starts_with(b"refused") => self.accepted(trial, &open),
             _ => (),
         }
         Ok(())
+    }
+
+    /// The restored state says how many generations have closed and how many calls its open trials have made; a value
+    /// of another trial is older than any vector that it is given from now on.
+    fn restored(&mut self) {
+        let p = self.driver.probe().expect("a state was restored");
+        let calls = |&trial: &u64| Some((trial, p.progress(trial)?.1));
+        self.calls = p.trials().iter().filter_map(calls).collect();
+        drop(p);
+        self.generation = self.driver.closed();
+        for (trial, told) in &mut self.told {
+            if !self.calls.contains_key(trial) {
+                told.calls = 0;
+            }
+        }
     }
 
     /// An accepted call: it has closed the generation where fewer trials are open than before.

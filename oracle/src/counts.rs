@@ -7,7 +7,7 @@ macro_rules! counts {
         pub struct Counts {
             $($(#[$group])* pub $field: u64,)*
             /// Refused calls and set-ups, by the table's number.
-            pub refused: [u64; 12],
+            pub refused: [u64; 14],
         }
 
         impl Counts {
@@ -35,6 +35,7 @@ counts! {
     size_5 = "set-ups: size 5",
     size_160 = "set-ups: size 160",
     calls = "sample calls answered",
+    restarted = "sample calls answered behind a restart",
     float = "answers: float",
     int = "answers: int",
     choice = "answers: choice",
@@ -43,6 +44,19 @@ counts! {
     states = "states printed",
     lines = "lines answered",
     draws = "draws",
+
+    saves = "saves",
+    saves_fresh = "saves: before the first call",
+    saves_discovery = "saves: in discovery",
+    saves_first = "saves: before the first closing",
+    saves_later = "saves: after a closing",
+    saves_extras = "saves: with extras",
+    saves_restored = "saves: of what was restored",
+    bytes = "kept files printed",
+    restores = "restarts: a file restored",
+    restores_stateless = "restarts: with no state before",
+    restores_unsaved = "restarts: a state that no save has laid",
+    restores_moved = "restarts: records elsewhere or in another order",
 
     discovered = "discovery: a dimension",
     discovery_ends = "discovery: its end",
@@ -103,6 +117,8 @@ counts! {
     closings_by_old = "closings: by a call of a trial of that generation",
     closings_cleared = "closings: the history was cleared since the one before",
     closings_idle = "closings: nothing replaced",
+    closed_stopped = "closings: the counter of closed generations stays at its most",
+    idle_stopped = "closings: the counter of idle generations stays at its most",
     results_repeated = "results: number twice in the history, other value first",
     results_unordered = "closings: results not in the order of the slots",
     results_strangers = "closings: history with other trials",

@@ -4,12 +4,14 @@
 use std::collections::HashSet;
 use std::io::{self, BufRead, Write};
 
+use crate::answers;
 use crate::closing::Before;
 use crate::counts::Counts;
 use crate::distribution::Distribution;
 use crate::judge;
-use crate::param::ParamValue;
-use crate::sampler::de::{DESampler, DEStrategy, Probe, Vector};
+use crate::kept::Kept;
+use crate::reader::Plain;
+use crate::sampler::de::{DESampler, DEStrategy, Probe};
 use crate::sampler::{CompletedTrial, Sampler};
 use crate::script::{self, Command, SetUp};
 use crate::text;
@@ -25,6 +27,7 @@ pub struct Campaign {
     pub size: Option<u64>,
     pub f: f64,
     pub cr: f64,
+    pub seed: u64,
     /// Closed generations, stopping at 4,294,967,295.
     pub closed: u32,
     /// Closed generations since one last replaced a slot, likewise.
@@ -33,6 +36,46 @@ pub struct Campaign {
     pub seen: HashSet<u64>,
     /// The history was cleared since the last closing, for counting alone.
     pub cleared: bool,
+    /// It comes from a kept file, for counting alone.
+    pub restored: bool,
+}
+
+impl Campaign {
+    /// A sampler that has been set up.
+    fn new(sampler: DESampler, setup: &SetUp) -> Self {
+        Self {
+            sampler,
+            strategy: setup.strategy,
+            size: setup.size,
+            f: setup.f,
+            cr: setup.cr,
+            seed: setup.seed,
+            closed: 0,
+            idle: 0,
+            seen: HashSet::new(),
+            cleared: false,
+            restored: false,
+        }
+    }
+
+    /// A sampler in a state that was read from a file.
+    pub fn of(plain: Plain) -> Self {
+        let setup = plain.setup.clone();
+        Self {
+            closed: plain.closed,
+            idle: plain.idle,
+            ..Self::new(DESampler::of(plain), &setup)
+        }
+    }
+
+    /// The sampler copied, and everything that is kept beside it.
+    pub fn copy(&self) -> Self {
+        Self {
+            sampler: self.sampler.copy(),
+            seen: self.seen.clone(),
+            ..*self
+        }
+    }
 }
 
 /// What is kept from line to line.
@@ -41,6 +84,7 @@ pub struct Driver {
     campaign: Option<Campaign>,
     history: Vec<CompletedTrial>,
     nans: usize,
+    kept: Kept,
     line: u64,
     pub counts: Counts,
 }
@@ -107,13 +151,25 @@ impl Driver {
             Command::Sample { trial, distribution } => self.sample(trial, &distribution, out),
             Command::Look => {
                 let c = self.campaign.as_ref().ok_or(Malformed)?;
-                look(c, &mut self.counts, out);
+                answers::look(c, &mut self.counts, out);
                 Ok(())
             }
             Command::State => {
                 let c = self.campaign.as_ref().ok_or(Malformed)?;
                 self.counts.states += 1;
-                state(&c.sampler.probe(), out);
+                answers::state(&c.sampler.probe(), out);
+                Ok(())
+            }
+            Command::Save => self.save(out),
+            Command::Restore => {
+                self.restore(out);
+                Ok(())
+            }
+            Command::File { length } => self.kept.blank(length),
+            Command::Put { offset, bytes } => self.kept.put(offset, &bytes),
+            Command::Bytes => {
+                self.counts.bytes += 1;
+                self.kept.write(out);
                 Ok(())
             }
         }
@@ -127,6 +183,16 @@ impl Driver {
     /// The sampler's private state, where there is a sampler.
     pub fn probe(&self) -> Option<Probe<'_>> {
         self.campaign.as_ref().map(|c| c.sampler.probe())
+    }
+
+    /// The kept file.
+    pub fn kept_file(&self) -> &[u8] {
+        self.kept.file()
+    }
+
+    /// The closed generations.
+    pub fn closed(&self) -> u64 {
+        self.campaign.as_ref().map_or(0, |c| u64::from(c.closed))
     }
 
     fn forget(&mut self) {
@@ -148,17 +214,7 @@ impl Driver {
         if let Some(size) = setup.size {
             builder = builder.population_size(size as usize);
         }
-        self.campaign = Some(Campaign {
-            sampler: builder.build(),
-            strategy: setup.strategy,
-            size: setup.size,
-            f: setup.f,
-            cr: setup.cr,
-            closed: 0,
-            idle: 0,
-            seen: HashSet::new(),
-            cleared: false,
-        });
+        self.campaign = Some(Campaign::new(builder.build(), setup));
         let c = &mut self.counts;
         c.sections += 1;
         match setup.size {
@@ -179,6 +235,39 @@ impl Driver {
         out.push(b'\n');
     }
 
+    fn save(&mut self, out: &mut Vec<u8>) -> Result<(), Malformed> {
+        let c = self.campaign.as_ref().ok_or(Malformed)?;
+        let length = self.kept.save(c);
+        let p = c.sampler.probe();
+        self.counts.saves += 1;
+        self.counts.saves_fresh += u64::from(p.first().is_none());
+        self.counts.saves_discovery += u64::from(p.first().is_some() && !p.active());
+        self.counts.saves_first += u64::from(p.active() && c.closed == 0);
+        self.counts.saves_later += u64::from(c.closed > 0);
+        self.counts.saves_extras += u64::from(p.active() && p.trials().len() > p.size());
+        self.counts.saves_restored += u64::from(c.restored);
+        out.extend_from_slice(b"saved ");
+        text::whole(out, length as u64);
+        out.push(b'\n');
+        Ok(())
+    }
+
+    /// The history is the caller's and stays.
+    fn restore(&mut self, out: &mut Vec<u8>) {
+        match self.kept.restore() {
+            Ok((mut c, known)) => {
+                self.counts.restores += 1;
+                self.counts.restores_unsaved += u64::from(!known);
+                self.counts.restores_stateless += u64::from(self.campaign.is_none());
+                self.counts.restores_moved += u64::from(!self.kept.is_canonical());
+                c.restored = true;
+                self.campaign = Some(c);
+                out.extend_from_slice(b"restored\n");
+            }
+            Err(k) => self.refuse(k, out),
+        }
+    }
+
     fn sample(&mut self, trial: u64, d: &Distribution, out: &mut Vec<u8>) -> Result<(), Malformed> {
         let c = self.campaign.as_mut().ok_or(Malformed)?;
         let p = c.sampler.probe();
@@ -189,102 +278,14 @@ impl Driver {
         }
         let before = Before::of(&p, trial);
         drop(p);
+        self.counts.restarted += u64::from(c.restored);
         let answer = c.sampler.sample(d, trial, &self.history);
         before.compare(c, d, trial, &answer, &self.history, &mut self.counts);
         let draws = c.sampler.probe().draws() - before.draws;
-        setting(&answer, out);
+        answers::setting(&answer, out);
         out.push(b' ');
         text::whole(out, draws);
         out.push(b'\n');
         Ok(())
     }
-}
-
-fn setting(answer: &ParamValue, out: &mut Vec<u8>) {
-    match answer {
-        ParamValue::Float(x) => {
-            out.extend_from_slice(b"float ");
-            text::double(out, *x);
-        }
-        ParamValue::Int(k) => {
-            out.extend_from_slice(b"int ");
-            text::signed(out, *k);
-        }
-        ParamValue::Categorical(index) => {
-            out.extend_from_slice(b"choice ");
-            text::whole(out, *index as u64);
-        }
-    }
-}
-
-fn look(c: &Campaign, counts: &mut Counts, out: &mut Vec<u8>) {
-    let p = c.sampler.probe();
-    if p.values().is_empty() {
-        counts.looks_early += 1;
-        out.extend_from_slice(b"look -\n");
-        return;
-    }
-    counts.looks += 1;
-    out.extend_from_slice(b"look");
-    for number in [p.best() as u64, u64::from(c.closed), u64::from(c.idle)] {
-        out.push(b' ');
-        text::whole(out, number);
-    }
-    for &value in p.values() {
-        out.push(b' ');
-        text::double(out, value);
-    }
-    out.push(b'\n');
-}
-
-fn state(p: &Probe<'_>, out: &mut Vec<u8>) {
-    p.assert_hidden_part();
-    out.extend_from_slice(if p.active() {
-        b"state active "
-    } else {
-        b"state discovery "
-    });
-    match p.first() {
-        Some(trial) => text::whole(out, trial),
-        None => out.push(b'-'),
-    }
-    for number in [p.size(), p.dims(), p.best()] {
-        out.push(b' ');
-        text::whole(out, number as u64);
-    }
-    out.push(b' ');
-    text::pattern(out, p.word());
-    out.push(b'\n');
-    for (slot, &value) in p.values().iter().enumerate() {
-        out.extend_from_slice(b"parent ");
-        text::double(out, value);
-        vector(&p.parent(slot), out);
-    }
-    for place in 0..p.candidates() {
-        out.extend_from_slice(b"candidate");
-        vector(&p.candidate(place), out);
-    }
-    for &trial in p.trials() {
-        out.extend_from_slice(b"trial ");
-        text::whole(out, trial);
-        out.push(b' ');
-        // The Rust counts on past the last dimension; the smaller of that and D is compared.
-        let next = p.progress(trial).map_or(0, |(_, next)| next.min(p.dims()));
-        text::whole(out, next as u64);
-        out.push(b'\n');
-    }
-}
-
-fn vector(v: &Vector<'_>, out: &mut Vec<u8>) {
-    for &x in v.entries {
-        out.push(b' ');
-        text::double(out, x);
-    }
-    for (dim, choice) in v.choices() {
-        out.push(b' ');
-        text::whole(out, dim as u64);
-        out.push(b':');
-        text::whole(out, choice as u64);
-    }
-    out.push(b'\n');
 }

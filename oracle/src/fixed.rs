@@ -6,8 +6,11 @@ use crate::driver::Driver;
 use crate::generate::exhaustive;
 use crate::generate::stream::{SHORT_FROM, Stream};
 
-/// The part by hand. A comment `# by hand: refused K: WHY` says what the line after it must answer.
-const BY_HAND: &str = include_str!("../refusals.script");
+/// The parts by hand. A comment `# by hand: refused K: WHY` says what the line after it must answer.
+const BY_HAND: [&str; 2] = [include_str!("../refusals.script"), include_str!("../restarts.script")];
+
+/// Before anything else: no file has been kept yet.
+const NO_FILE: &str = "# by hand: refused 12: no file has been kept yet\nrestore\nbytes\n";
 
 /// Each branch is met so often, by sections chosen for it.
 const OFTEN: u64 = 2;
@@ -54,27 +57,31 @@ pub fn make(seed: u64) -> Result<Fixed, String> {
         .map(|(i, case)| case.section(seed + i as u64).text);
     // Refusals are the part by hand alone.
     let mut pool: Vec<Entry> = random.chain(short).map(Entry::of).collect();
-    pool.retain(|entry| entry.counts.refused == [0; 12]);
+    pool.retain(|entry| entry.counts.refused == [0; 14]);
     choose(&mut pool);
     let mut script = format!(
-        "# Made by the oracle (docs/ORACLE.md): every answer up to the mark below is the Rust's. Seed {seed}.\n"
+        "# Made by the oracle (docs/ORACLE.md): the answers up to the mark below are the Rust's, kept files by docs/SAVED.md. Seed {seed}.\n"
     )
     .into_bytes();
+    by_hand_is_so(NO_FILE)?;
+    script.extend_from_slice(NO_FILE.as_bytes());
     for entry in pool.iter().filter(|entry| entry.chosen) {
         script.extend_from_slice(&entry.script);
     }
     script.extend_from_slice(
-        b"# From here on by hand: the refusals are those of document 01's table, the other answers the Rust's.\n",
+        b"# From here on by hand: the refusals are those of document 01's table and of docs/SAVED.md, the other answers the Rust's.\n",
     );
-    by_hand_is_so(BY_HAND)?;
-    script.extend_from_slice(BY_HAND.as_bytes());
+    for part in BY_HAND {
+        by_hand_is_so(part)?;
+        script.extend_from_slice(part.as_bytes());
+    }
     let mut driver = Driver::default();
     let answers = expected(&mut driver, &script);
     let counts = driver.counts;
     if let Some((label, _)) = counts.rows().iter().find(|(_, count)| *count == 0) {
         return Err(format!("never met: {label}"));
     }
-    if let Some(k) = (1..=10).find(|&k| counts.refused[k] == 0) {
+    if let Some(k) = (1..=10).chain(12..=13).find(|&k| counts.refused[k] == 0) {
         return Err(format!("never met: refusal {k}"));
     }
     if counts.calls < LEAST {
@@ -160,6 +167,8 @@ fn by_hand_is_so(script: &str) -> Result<(), String> {
 mod tests {
     #[test]
     fn the_list_can_be_made() {
-        super::by_hand_is_so(super::BY_HAND).unwrap();
+        for part in super::BY_HAND {
+            super::by_hand_is_so(part).unwrap();
+        }
     }
 }

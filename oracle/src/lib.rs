@@ -52,6 +52,7 @@ pub mod sampler {
     }
 }
 
+mod answers;
 mod closing;
 pub mod compare;
 pub mod counted;
@@ -61,11 +62,17 @@ pub mod driver;
 pub mod fixed;
 pub mod generate;
 pub mod judge;
+mod kept;
+mod reader;
+mod saved;
 pub mod script;
+pub mod sections;
 mod served;
 mod shrink;
 pub mod text;
 pub mod workers;
 
+#[cfg(test)]
+mod saved_tests;
 #[cfg(test)]
 mod tests;

@@ -1,4 +1,5 @@
-// The probe: included into the module of the Rust's de.rs, it reads the private state and changes nothing.
+// The probe: included into the module of the Rust's de.rs, it reads the private state and changes nothing. For saved
+// files it also copies a sampler, and makes one in a state that was read.
 
 /// A candidate or a parent, as it is printed: its entries, and its choices by dimension.
 pub struct Vector<'a> {
@@ -23,9 +24,88 @@ impl DESampler {
     pub fn probe(&self) -> Probe<'_> {
         Probe(self.state.lock())
     }
+
+    /// Another sampler with the same private state, field by field.
+    pub fn copy(&self) -> Self {
+        let s = self.state.lock();
+        Self {
+            state: Mutex::new(State {
+                rng: s.rng.clone(),
+                user_population_size: s.user_population_size,
+                mutation_factor: s.mutation_factor,
+                crossover_rate: s.crossover_rate,
+                strategy: s.strategy,
+                phase: match s.phase {
+                    Phase::Discovery => Phase::Discovery,
+                    Phase::Active => Phase::Active,
+                },
+                dimensions: s.dimensions.clone(),
+                discovery_trial_id: s.discovery_trial_id,
+                population: s.population.clone(),
+                population_categorical: s.population_categorical.clone(),
+                population_values: s.population_values.clone(),
+                best_idx: s.best_idx,
+                initialized: s.initialized,
+                population_size: s.population_size,
+                candidates: s.candidates.clone(),
+                trial_progress: s.trial_progress.clone(),
+                assigned_count: s.assigned_count,
+                generation_trial_ids: s.generation_trial_ids.clone(),
+            }),
+        }
+    }
+}
+
+impl DESampler {
+    /// A sampler in a state that was read from a file.
+    pub fn of(plain: crate::reader::Plain) -> Self {
+        let choices = |row: &crate::reader::Row| row.choices.iter().copied().collect();
+        let size = plain.size.unwrap_or(0);
+        let dimension = |d: &Distribution| DimensionInfo {
+            distribution: d.clone(),
+            is_continuous: !matches!(d, Distribution::Categorical(_)),
+            bounds: internal_bounds(d),
+        };
+        let candidate = |(i, row): (usize, &crate::reader::Row)| Candidate {
+            x: row.entries.clone(),
+            categorical_values: choices(row),
+            target_idx: if i < size { i } else { 0 },
+        };
+        let progress = |(candidate_idx, &(trial, next_dim)): (usize, &(u64, usize))| {
+            (trial, TrialProgress { candidate_idx, next_dim })
+        };
+        Self {
+            state: Mutex::new(State {
+                rng: fastrand::Rng::with_seed(plain.word),
+                user_population_size: plain.setup.size.map(|size| size as usize),
+                mutation_factor: plain.setup.f,
+                crossover_rate: plain.setup.cr,
+                strategy: plain.setup.strategy,
+                phase: if plain.size.is_some() { Phase::Active } else { Phase::Discovery },
+                dimensions: plain.dims.iter().map(dimension).collect(),
+                discovery_trial_id: plain.first,
+                population: plain.parents.iter().map(|row| row.entries.clone()).collect(),
+                population_categorical: plain.parents.iter().map(choices).collect(),
+                initialized: !plain.values.is_empty(),
+                population_values: plain.values,
+                best_idx: plain.best,
+                population_size: size,
+                candidates: plain.candidates.iter().enumerate().map(candidate).collect(),
+                trial_progress: plain.trials.iter().enumerate().map(progress).collect(),
+                assigned_count: plain.trials.len(),
+                generation_trial_ids: plain.trials.iter().map(|&(trial, _)| trial).collect(),
+            }),
+        }
+    }
 }
 
 impl Probe<'_> {
+    /// F, CR, the strategy and the size that is set.
+    pub fn set_up(&self) -> (f64, f64, DEStrategy, Option<usize>) {
+        let s = &*self.0;
+        (s.mutation_factor, s.crossover_rate, s.strategy, s.user_population_size)
+    }
+
     /// Whether discovery has ended.
     pub fn active(&self) -> bool {
         matches!(self.0.phase, Phase::Active)

@@ -19,6 +19,11 @@ pub enum Command {
     Sample { trial: u64, distribution: Distribution },
     Look,
     State,
+    Save,
+    Restore,
+    File { length: u64 },
+    Put { offset: u64, bytes: Vec<u8> },
+    Bytes,
 }
 
 /// The words of a `new` line.
@@ -69,6 +74,14 @@ pub fn parse(line: &[u8]) -> Option<Command> {
         }),
         [b"look"] => Some(Command::Look),
         [b"state"] => Some(Command::State),
+        [b"save"] => Some(Command::Save),
+        [b"restore"] => Some(Command::Restore),
+        [b"file", length] => Some(Command::File { length: whole(length)? }),
+        [b"put", offset, digits] => Some(Command::Put {
+            offset: whole(offset)?,
+            bytes: bytes(digits)?,
+        }),
+        [b"bytes"] => Some(Command::Bytes),
         _ => None,
     }
 }
@@ -136,13 +149,26 @@ fn double(word: &[u8]) -> Option<f64> {
     if word.len() != 16 {
         return None;
     }
-    let bits = word.iter().try_fold(0u64, |bits, &b| {
-        let digit = match b {
-            b'0'..=b'9' => b - b'0',
-            b'a'..=b'f' => b - b'a' + 10,
-            _ => return None,
-        };
-        Some(bits << 4 | u64::from(digit))
-    })?;
+    let bits = word
+        .iter()
+        .try_fold(0u64, |bits, &b| Some(bits << 4 | u64::from(digit(b)?)))?;
     Some(f64::from_bits(bits))
+}
+
+/// Two hexadecimal digits a byte, low case; one byte at least.
+fn bytes(word: &[u8]) -> Option<Vec<u8>> {
+    if word.is_empty() || !word.len().is_multiple_of(2) {
+        return None;
+    }
+    word.chunks(2)
+        .map(|two| Some(digit(two[0])? << 4 | digit(two[1])?))
+        .collect()
+}
+
+fn digit(b: u8) -> Option<u8> {
+    match b {
+        b'0'..=b'9' => Some(b - b'0'),
+        b'a'..=b'f' => Some(b - b'a' + 10),
+        _ => None,
+    }
 }

@@ -238,6 +238,7 @@ fn sections_are_what_their_ledger_says() {
     assert_eq!(driver.counts.calls, stream.calls);
     assert_eq!(driver.counts.closings, stream.closed);
     assert!(driver.counts.closings > stream.calls / 30);
+    assert!(driver.counts.restarted > stream.calls / 100);
     for script in malformed::scripts(1, 50) {
         expected(&mut Driver::default(), &script);
     }

@@ -26,9 +26,18 @@ pub fn signed(out: &mut Vec<u8>, number: i64) {
     whole(out, number.unsigned_abs());
 }
 
+const DIGITS: &[u8; 16] = b"0123456789abcdef";
+
+/// Two hexadecimal digits a byte, low case.
+pub fn hex(out: &mut Vec<u8>, bytes: &[u8]) {
+    for &b in bytes {
+        out.push(DIGITS[usize::from(b >> 4)]);
+        out.push(DIGITS[usize::from(b & 15)]);
+    }
+}
+
 /// 16 hexadecimal digits, low case.
 pub fn pattern(out: &mut Vec<u8>, word: u64) {
-    const DIGITS: &[u8; 16] = b"0123456789abcdef";
     let mut digits = [0u8; 16];
     for (i, d) in digits.iter_mut().enumerate() {
         *d = DIGITS[(word >> (60 - 4 * i) & 15) as usize];

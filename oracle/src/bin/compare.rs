@@ -7,6 +7,7 @@ use std::time::Instant;
 use oracle::compare::{self, Outcome};
 use oracle::generate::malformed;
 use oracle::generate::stream::Stream;
+use oracle::sections;
 
 const USAGE: &str = "usage: compare [--seed S] [--calls C] [--malformed K] [--script FILE] [--oracle-fault] PROGRAM";
 
@@ -51,7 +52,7 @@ fn main() -> ExitCode {
         compare::one_by_one(&w.program, malformed::scripts(w.seed, random))
     } else if let Some(file) = &w.script {
         match std::fs::read(file) {
-            Ok(text) => compare::in_one_run(&w.program, compare::sections(&text).into_iter()),
+            Ok(text) => compare::in_one_run(&w.program, sections::of(&text).into_iter()),
             Err(e) => {
                 eprintln!("compare: {file}: {e}");
                 return ExitCode::from(2);
@@ -82,9 +83,11 @@ fn main() -> ExitCode {
     print!("{totals}");
     println!("time: {:.1} s", began.elapsed().as_secs_f64());
     println!(
-        "seed {}: {} sample calls and {} generations closed: the same as the Rust's; {} refusals: the same as the table's",
+        "seed {}: {} sample calls ({} behind a restart) and {} generations closed: the same as the Rust's; \
+         {} refusals: the same as the tables'",
         w.seed,
         totals.counts.calls,
+        totals.counts.restarted,
         totals.counts.closings,
         totals.counts.refused.iter().sum::<u64>()
     );

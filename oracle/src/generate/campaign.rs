@@ -17,10 +17,10 @@ struct Run {
     slow: bool,
 }
 
-struct Play<'a> {
-    s: Section,
-    plan: &'a Plan,
-    dice: &'a mut Dice,
+pub(super) struct Play<'a> {
+    pub(super) s: Section,
+    pub(super) plan: &'a Plan,
+    pub(super) dice: &'a mut Dice,
     running: Vec<Run>,
     next: u64,
     /// Every result told so far, to tell it again after a clearing.
@@ -57,6 +57,7 @@ impl Play<'_> {
                 return;
             }
             self.aside();
+            self.restarts();
             self.s.sample(first, d);
         }
         if self.plan.chances.refused > 0 && self.s.dims.len() == judge::MOST_DIMS {
@@ -68,7 +69,7 @@ impl Play<'_> {
         }
     }
 
-    fn new_number(&mut self) -> u64 {
+    pub(super) fn new_number(&mut self) -> u64 {
         let number = self.next;
         self.next = match self.plan.numbers {
             Numbers::Up => number.wrapping_add(1),
@@ -88,6 +89,7 @@ impl Play<'_> {
         }
         self.mischief();
         self.aside();
+        self.restarts();
         let idle = self.running.len() < self.plan.workers;
         if self.running.is_empty() || (idle && self.dice.percent(40)) {
             return self.start();
@@ -133,7 +135,7 @@ impl Play<'_> {
     }
 
     /// A call of a trial with the distribution of its next place, or with another.
-    fn call(&mut self, number: u64) -> bool {
+    pub(super) fn call(&mut self, number: u64) -> bool {
         let place = if self.s.ready() { 0 } else { self.s.calls_of(number) };
         let d = self.lent(place);
         self.s.sample(number, &d)
@@ -181,8 +183,13 @@ impl Play<'_> {
         }
     }
 
-    fn clear_history(&mut self, all_back: bool) {
+    pub(super) fn clear_history(&mut self, all_back: bool) {
         self.s.clear();
+        self.tell_again(all_back);
+    }
+
+    /// The results of the open trials into an empty history, all of them or some.
+    pub(super) fn tell_again(&mut self, all_back: bool) {
         let known = |t: &u64| self.results.contains_key(t);
         let mut back: Vec<u64> = self.s.open.iter().copied().filter(known).collect();
         self.dice.shuffle(&mut back);

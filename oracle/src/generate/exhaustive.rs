@@ -1,5 +1,6 @@
 //! Short scripts without chance: N = 4, one dimension of each kind and one space with all three, every order in
-//! which the trials of the first generation start and finish, every order of their results with ties.
+//! which the trials of the first generation start and finish, every order of their results with ties; and in some of
+//! them a restart after one of their calls.
 
 use super::distributions::{choice, float, int};
 use super::section::Section;
@@ -114,6 +115,8 @@ impl Case {
     /// Two generations: the first as the case says, the second with the results turned round by one slot.
     pub fn section(&self, seed: u64) -> Section {
         let dims = &spaces()[self.space];
+        // Prime, so that each place is met with each set-up; past the last call there is no restart.
+        let restart_at = seed / 7 % 37;
         let result = |i: usize| scale(self.ranks, seed)[self.ranks[i] as usize];
         let mut s = Section::new(&SetUp {
             f: [0.8, 0.5, 1.0][(seed % 3) as usize],
@@ -123,34 +126,41 @@ impl Case {
             seed,
         });
         for d in dims {
-            s.sample(1, d);
+            call(&mut s, restart_at, 1, d);
         }
         let mut extra = false;
         for event in &self.events {
             match *event {
-                Event::Start(i) => s.sample(2 + i as u64, &dims[0]),
-                Event::Finish(i) => {
-                    s.tell(2 + i as u64, result(i));
-                    false
-                }
+                Event::Start(i) => call(&mut s, restart_at, 2 + i as u64, &dims[0]),
+                Event::Finish(i) => s.tell(2 + i as u64, result(i)),
             };
             // The first trial calls again while results are missing: an extra, and no closing.
             if !extra && s.open.len() == 4 && !s.ready() {
                 extra = true;
-                s.sample(1, &dims[0]);
+                call(&mut s, restart_at, 1, &dims[0]);
             }
         }
         for trial in 6..10 {
-            s.sample(trial, &dims[0]);
+            call(&mut s, restart_at, trial, &dims[0]);
         }
         for i in (0..4).rev() {
             s.tell(6 + i as u64, result((i + 1) % 4));
         }
         for d in dims {
-            s.sample(10, d);
+            call(&mut s, restart_at, 10, d);
         }
         s.look();
         s
+    }
+}
+
+/// A call; where it is the one before the restart, a further call of another trial is lost with the reboot.
+fn call(s: &mut Section, restart_at: u64, trial: u64, d: &Distribution) {
+    s.sample(trial, d);
+    if s.calls == restart_at {
+        s.save();
+        s.sample(99, d);
+        s.restore();
     }
 }
 
@@ -169,7 +179,7 @@ mod tests {
     #[test]
     fn each_case_closes_twice() {
         for (seed, case) in short().iter().enumerate() {
-            assert_eq!(case.section(seed as u64).closed, 2);
+            assert_eq!(case.section(seed as u64).generations, 2);
         }
     }
 }

@@ -87,6 +87,47 @@ const LINES: &[&str] = &[
     "sample 1 int 0\0 5 lin -",
     "sample 1 \u{e9} 5",
     "quit",
+    "save",
+    "save ",
+    "save 1",
+    "Save",
+    "saved",
+    "restore",
+    "restore ",
+    "restore 1",
+    "restored",
+    "bytes",
+    "bytes 1",
+    " bytes",
+    "file",
+    "file ",
+    "file -",
+    "file -1",
+    "file 0",
+    "file 00000000000000000000000000000000032",
+    "file 64 64",
+    "file 81920",
+    "file 81921",
+    "file 18446744073709551615",
+    "file 18446744073709551616",
+    "put",
+    "put 0",
+    "put 0 ",
+    "put 00",
+    "put 0 00",
+    "put 0 00 00",
+    "put 0 0",
+    "put 0 000",
+    "put 0  00",
+    "put 0 0A",
+    "put 0 0g",
+    "put 0 -1",
+    "put - 00",
+    "put -1 00",
+    "put +1 00",
+    "put 18446744073709551615 00",
+    "put 18446744073709551615 0000",
+    "put 18446744073709551616 00",
 ];
 
 /// The scripts: those by hand, then so many random ones.
@@ -114,6 +155,8 @@ pub fn scripts(seed: u64, random: usize) -> Vec<Vec<u8>> {
         all.push(format!("{told}{NEW}\n{SAMPLE}\ntell 1 0000000000000000\nstate\n").into_bytes());
     }
     all.push(full_history().into_bytes());
+    all.extend(kept_files());
+    all.push(largest_file().into_bytes());
     let mut dice = Dice::new(seed);
     all.extend((0..random).map(|_| spoilt(&mut dice)));
     all
@@ -132,6 +175,61 @@ fn full_history() -> String {
             "tell 5 c008000000000000\n{}\nlook\nstate\n",
             SAMPLE.replace("sample 1", "sample 6")
         )
+}
+
+/// What may be done to a kept file: up to its end and past it, before a `save` and after it, with no state.
+fn kept_files() -> Vec<Vec<u8>> {
+    const REFUSED: &str = "new 4004000000000000 3feccccccccccccd best1 4 1";
+    let saved = format!("{NEW}\n{SAMPLE}\nsave\n");
+    // The file has eight records, 256 bytes.
+    let longest = "0".repeat(LONGEST_LINE - "put 0 ".len());
+    let mut all = Vec::new();
+    for lines in [
+        "put 255 00",
+        "put 256 00",
+        "put 255 0000",
+        "put 254 0000",
+        "put 248 0000000000000000",
+        "put 249 0000000000000000",
+        "put 4294967296 00",
+        "put 9223372036854775807 00",
+        "put 18446744073709551360 00",
+        "file 0\nput 0 00",
+        "file 1\nput 0 ff\nbytes\nput 1 ff",
+        "file 33\nput 31 0123456789abcdef\nbytes",
+        "file 33\nput 31 abcd\nbytes\nrestore",
+        "file 81920\nput 81919 01\nrestore\nput 81920 01",
+        &format!("put 0 {longest}\nbytes"),
+        &format!("file 256\nput 0 {longest}\nbytes"),
+        &format!("file 252\nput 0 {longest}\nbytes"),
+        &format!("put 00 {longest}\nbytes"),
+        &format!("{REFUSED}\nrestore\nsave\nbytes"),
+        &format!("{REFUSED}\nfile 256\nrestore\nsave"),
+        &format!("{REFUSED}\nsave"),
+        &format!("{REFUSED}\nlook\nrestore"),
+        &format!("{REFUSED}\nrestore\nlook\n{SAMPLE}\nstate"),
+    ] {
+        for end in ["\nrestore\nstate\n", "\nbytes\nsave\nlook\n", ""] {
+            all.push(format!("{saved}{lines}{end}").into_bytes());
+            all.push(format!("{lines}{end}").into_bytes());
+        }
+    }
+    all
+}
+
+/// The largest saved file: 160 slots, 16 dimensions, 64 extras, after a closing.
+fn largest_file() -> String {
+    let call = |trial| format!("{}\n", SAMPLE.replace("sample 1", &format!("sample {trial}")));
+    let mut script = format!("{}\n", NEW.replace("rand1 4", "best1 160"));
+    script += &call(0).repeat(16);
+    for trial in 1..=160 {
+        script += &format!("{}tell {trial} 3ff0000000000000\n", call(trial));
+    }
+    for trial in 161..=384 {
+        script += &call(trial);
+    }
+    // The upper two bytes of the last entry: it is +infinity or NaN then.
+    script + "save\nbytes\nput 73110 f07f\nrestore\nsave\nrestore\nstate\nlook\nbytes\n"
 }
 
 /// A short section with a few bytes changed.

@@ -108,6 +108,10 @@ pub struct Plan {
     pub hold: bool,
     /// The history is cleared when it has so many entries.
     pub most_entries: usize,
+    /// The campaign is saved and restored now and then.
+    pub restarts: bool,
+    /// Kept files are damaged now and then, so that they are refused.
+    pub damage: bool,
     pub chances: Chances,
 }
 
@@ -136,6 +140,8 @@ impl Plan {
             start: *dice.pick(&[1, 1, 0, 7, u64::MAX / 2]),
             hold: false,
             most_entries: dice.between(60, 300),
+            restarts: dice.percent(40),
+            damage: dice.percent(20),
             chances: Chances {
                 lent: *dice.pick(&[0, 10, 50]),
                 twice: *dice.pick(&[0, 10, 40]),
@@ -188,12 +194,17 @@ impl Plan {
             Class::Short => {
                 self.generations = 1;
                 self.most_calls = dice.between(0, 30) as u64;
+                self.restarts = dice.percent(60);
+                // Some of these scripts are spoilt: what a spoilt damage makes of a file is not for certain.
+                self.damage = false;
             }
             Class::Refusals => {
                 self.chances.refused = *dice.pick(&[5, 15, 40]);
                 self.hold = dice.percent(30);
                 self.workers += if self.hold { 80 } else { 0 };
                 self.generations = dice.between(1, 4) as u64;
+                self.restarts = true;
+                self.damage = true;
             }
             Class::Rate => {
                 self.each = Each::One;

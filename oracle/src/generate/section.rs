@@ -3,6 +3,7 @@
 
 use std::collections::HashMap;
 
+use super::mark::Mark;
 use crate::distribution::Distribution;
 use crate::judge;
 use crate::sampler::de::DEStrategy;
@@ -16,8 +17,10 @@ pub struct Section {
     pub calls: u64,
     /// Those of them that the ledger sees accepted.
     pub accepted: u64,
-    /// Closings that the ledger expects.
+    /// Closings that the ledger expects, those with them that a restart undid.
     pub closed: u64,
+    /// Closed generations of the state as it stands.
+    pub generations: u64,
     pub dims: Vec<Distribution>,
     pub first: Option<u64>,
     /// N once discovery has ended.
@@ -32,7 +35,10 @@ pub struct Section {
     calls_of: HashMap<u64, usize>,
     size: Option<u64>,
     nans: usize,
-    alive: bool,
+    /// There is a state.
+    pub alive: bool,
+    /// What a `restore` gives back.
+    pub kept: Option<Mark>,
 }
 
 impl Section {
@@ -42,6 +48,7 @@ impl Section {
             calls: 0,
             accepted: 0,
             closed: 0,
+            generations: 0,
             dims: Vec::new(),
             first: None,
             n: None,
@@ -53,9 +60,78 @@ impl Section {
             size: setup.size,
             nans: 0,
             alive: judge::set_up(setup).is_none(),
+            kept: None,
         };
         s.set_up_line(setup);
         s
+    }
+
+    /// A further `new` line: a fresh state or none, and an empty history. The kept file stays.
+    pub fn set_up_anew(&mut self, setup: &SetUp) {
+        self.set_up_line(setup);
+        self.forget();
+        self.stand_at(Mark::fresh(setup.size));
+        self.alive = judge::set_up(setup).is_none();
+    }
+
+    fn stand_at(&mut self, mark: Mark) {
+        self.dims = mark.dims;
+        self.first = mark.first;
+        self.n = mark.n;
+        self.open = mark.open;
+        self.calls_of = mark.calls_of;
+        self.generations = mark.generations;
+        self.size = mark.size;
+        self.alive = true;
+    }
+
+    pub fn save(&mut self) {
+        self.text.extend_from_slice(b"save\n");
+        self.kept = Some(Mark {
+            dims: self.dims.clone(),
+            first: self.first,
+            n: self.n,
+            open: self.open.clone(),
+            calls_of: self.calls_of.clone(),
+            generations: self.generations,
+            size: self.size,
+        });
+    }
+
+    /// A `restore` line that is taken, and a `state` line. The history stays as it is.
+    pub fn restore(&mut self) {
+        let mark = self.kept.clone().expect("a file was saved");
+        self.text.extend_from_slice(b"restore\n");
+        self.stand_at(mark);
+        self.state();
+    }
+
+    /// A `restore` line that is refused; a `state` line shows that nothing has changed.
+    pub fn restore_refused(&mut self) {
+        self.text.extend_from_slice(b"restore\n");
+        if self.alive {
+            self.state();
+        }
+    }
+
+    /// A kept file of zero bytes, which nothing reads.
+    pub fn file(&mut self, length: u64) {
+        self.text.extend_from_slice(b"file ");
+        text::whole(&mut self.text, length);
+        self.text.push(b'\n');
+        self.kept = None;
+    }
+
+    pub fn put(&mut self, offset: usize, bytes: &[u8]) {
+        self.text.extend_from_slice(b"put ");
+        text::whole(&mut self.text, offset as u64);
+        self.text.push(b' ');
+        text::hex(&mut self.text, bytes);
+        self.text.push(b'\n');
+    }
+
+    pub fn bytes(&mut self) {
+        self.text.extend_from_slice(b"bytes\n");
     }
 
     /// A `new` line alone.
@@ -105,6 +181,7 @@ impl Section {
         let closes = self.ready();
         if closes {
             self.closed += 1;
+            self.generations += 1;
             self.old.append(&mut self.open);
             self.calls_of.clear();
             if self.old.len() > 400 {
@@ -175,6 +252,10 @@ impl Section {
 
     pub fn clear(&mut self) {
         self.text.extend_from_slice(b"clear\n");
+        self.forget();
+    }
+
+    fn forget(&mut self) {
         self.entries = 0;
         self.nans = 0;
         self.told.clear();

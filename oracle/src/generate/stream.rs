@@ -8,6 +8,7 @@ use super::exhaustive::{self, Case};
 use super::plan::{Class, Plan};
 use super::rate;
 use super::refused;
+use super::scattered;
 use super::section::Section;
 
 /// From so many calls on, the short exhaustive family is run whole.
@@ -104,6 +105,9 @@ impl Stream {
         let mut section = campaign::play(&plan, &mut self.dice);
         if class == Class::Rate {
             rate::meet(&mut section, &plan.setup, &mut self.dice);
+        }
+        if plan.restarts && self.dice.percent(40) {
+            scattered::scatter(&mut section, &mut self.dice);
         }
         if class == Class::Refusals {
             // A refused set-up first: nothing may be left of it. Its own line alone, since no state follows.
