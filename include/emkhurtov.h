@@ -1,14 +1,16 @@
 /* The differential evolution sampler for C callers. Link with libemkhurtov.a (lib/x86_64-linux, or by pkg-config).
  *
- * The functions de_new, de_sample, de_look, de_slot_setting, de_to_internal and de_draw_ceiling are the proved code
- * itself (crates/exports); what each promises stands beside it and is proved there for every memory content and every
- * argument. They take references, so a pointer that they are given must be valid. The functions de_checked_* below test
- * what a pointer's callers get wrong (null, too short, misaligned) and then call them.
+ * The functions de_new, de_sample, de_look, de_slot_setting, de_save, de_restore, de_to_internal and de_draw_ceiling
+ * are the proved code itself (crates/exports); what each promises stands beside it and is proved there for every memory
+ * content and every argument. They take references, so a pointer that they are given must be valid. The functions
+ * de_checked_* below test what a pointer's callers get wrong (null, too short, misaligned, overlapping) and then call
+ * them.
  *
  * Numbers stand for cases; a number that names no case is answered, never guessed at. Nothing here allocates, locks, or
  * keeps anything between calls: a state is all there is, the caller owns it, and two states never touch each other.
  *
- * A call needs 1 MB of stack, which a thread must have: 860 KB were measured, and the tests run with 1 MB. */
+ * A call needs 1 MB of stack, which a thread must have: 870 KB were measured for de_sample, 640 KB for de_restore, and
+ * the tests run with 1 MB. */
 #ifndef EMKHURTOV_H
 #define EMKHURTOV_H
 
@@ -19,9 +21,9 @@
 extern "C" {
 #endif
 
-#define DE_VERSION "0.3.0"
+#define DE_VERSION "0.4.0"
 #define DE_VERSION_MAJOR 0
-#define DE_VERSION_MINOR 3
+#define DE_VERSION_MINOR 4
 #define DE_VERSION_PATCH 0
 
 /* The version of the library that is linked: DE_VERSION, where it is this header's. */
@@ -34,7 +36,8 @@ enum {
     DE_MAX_EXTRA = 64,
     DE_MAX_TRIALS = 224, /* DE_MAX_POPULATION + DE_MAX_EXTRA */
     DE_MAX_CHOICES = 65535,
-    DE_MAX_DRAWS = 494080 /* of one call: DE_MAX_POPULATION x (3,072 + DE_MAX_DIMENSIONS) */
+    DE_MAX_DRAWS = 494080, /* of one call: DE_MAX_POPULATION x (3,072 + DE_MAX_DIMENSIONS) */
+    DE_MAX_FILE = 73120    /* bytes of the largest saved file */
 };
 #define DE_MAX_REAL 1e300                      /* the largest Float bound */
 #define DE_MAX_WHOLE INT64_C(9007199254740992) /* 2^53, the largest Int bound and step */
@@ -55,7 +58,8 @@ enum {
     DE_NULL_POINTER = 16,
     DE_SHORT_BUFFER = 17, /* the memory is smaller than DeState */
     DE_MISALIGNED = 18,
-    DE_LAYOUT = 19 /* this header and the library that is linked do not lay out the structs alike */
+    DE_LAYOUT = 19,     /* this header and the library that is linked do not lay out the structs alike */
+    DE_OVERLAPPING = 20 /* the lent file and the state's memory have a byte in common */
 };
 
 /* The kinds of a look. */
@@ -67,6 +71,12 @@ enum {
 
 /* The kinds of a DeInternal, beside DE_REFUSED and DE_UNKNOWN. */
 enum { DE_INTERNAL_VALUE = 1 };
+
+/* The kinds of a DeFile, beside DE_REFUSED and those from 16 on. */
+enum {
+    DE_SAVED = 1, /* the file's first `length` bytes are the saved state */
+    DE_RESTORED = 2
+};
 
 /* Why a call was refused. */
 enum {
@@ -81,7 +91,10 @@ enum {
     DE_HISTORY_NAN = 8,     /* a value of the history is NaN */
     DE_DIMENSIONS = 9,      /* a 17th dimension */
     DE_EXTRA_TRIALS = 10,   /* a 65th trial beyond the population in one generation */
-    DE_ENTRY_NAN = 11       /* a new candidate would have an entry that is NaN */
+    DE_ENTRY_NAN = 11,      /* a new candidate would have an entry that is NaN */
+    /* Of saved files alone; docs/SAVED.md has both checks word by word. */
+    DE_BAD_FILE = 12,   /* empty, no multiple of 32 bytes, a broken chain; in saving: the lent memory is too short */
+    DE_BAD_CONTENT = 13 /* what the file holds, or the state that is to be saved, is none that a sampler can have */
 };
 
 /* What a refusal says, in a sentence without its number; of a number that is no refusal, that it is none. */
@@ -196,6 +209,12 @@ typedef struct DeInternal {
     double value;
 } DeInternal;
 
+typedef struct DeFile {
+    uint64_t kind; /* DE_REFUSED, DE_SAVED or DE_RESTORED; of the checked functions also one of the kinds from 16 on */
+    uint64_t refusal;
+    uint64_t length; /* DE_SAVED: of the file, in bytes; else 0 */
+} DeFile;
+
 /* Sets up *state: DE_MADE; or DE_REFUSED by DE_MUTATION_FACTOR, DE_CROSSOVER_RATE or DE_POPULATION_SIZE, the first that
  * applies; or DE_UNKNOWN. Unless it is DE_MADE, *state is as it was. */
 DeAnswer de_new(DeState *state, DeSetup setup);
@@ -207,8 +226,8 @@ DeAnswer de_new(DeState *state, DeSetup setup);
  *
  * The rule for callers: ask for all settings of a trial in one go, with no other trial's call in between and the same
  * history lent to each call; the first trial has asked for everything before any other trial calls. Never use a trial
- * number again, not for a second attempt either. Tell every trial once it has ended, a killed one as +infinity.
- * docs/FINDINGS.md shows what goes wrong otherwise.
+ * number again, not for a second attempt either (after a restart: docs/GUIDE.md). Tell every trial once it has ended, a
+ * killed one as +infinity. docs/FINDINGS.md shows what goes wrong otherwise.
  *
  * - After the first trial the lent distribution does not decide the answer. It is judged (DE_BOUNDS to DE_CHOICES), and
  *   the setting is decoded by the one that the first trial lent. Past the last dimension it is drawn from the lent one.
@@ -225,6 +244,18 @@ DeLook de_look(const DeState *state);
  * ask for the slot `best` of a look. DE_NOTHING where there is no such slot or dimension yet, and before the first
  * generation has closed there is none; or DE_REFUSED by DE_STATE_NOT_SOUND. Nothing is drawn. */
 DeAnswer de_slot_setting(const DeState *state, uint64_t slot, uint64_t dimension);
+
+/* Writes the whole state as a saved file (docs/SAVED.md), so that a campaign goes on after a restart: DE_SAVED with the
+ * file's length, at most DE_MAX_FILE; no byte past that length is touched. Or DE_REFUSED: by DE_BAD_CONTENT where the
+ * state is none that a sampler can have, then by DE_BAD_FILE where `room` is less than the length; nothing is written
+ * then. Equal states have equal bytes. */
+DeFile de_save(const DeState *state, uint8_t *file, size_t room);
+
+/* Reads a saved file: DE_RESTORED, and *state is the state that was saved, with 0 in each field that a kind or flag has
+ * no use for; or DE_REFUSED by DE_BAD_FILE, then by DE_BAD_CONTENT, and *state is as it was, bit for bit. What *state
+ * holds before is never read, as in de_new. The history is no part of a file: it stays the caller's, and docs/GUIDE.md
+ * says what it must hold after a restart. */
+DeFile de_restore(DeState *state, const uint8_t *file, size_t length);
 
 /* The double that a setting stands for; refusals 4 to 7 of the distribution, and DE_BOUNDS for an Int setting past
  * 2^53; 0.0 where the kinds differ. */
@@ -273,6 +304,8 @@ typedef struct DeMarks {
     uint64_t after_trial;
     DeState state;
     uint64_t after_state;
+    DeFile file;
+    uint64_t after_file;
 } DeMarks;
 
 DeMarks de_marks(void);
@@ -281,13 +314,16 @@ DeMarks de_marks(void);
 int de_layout_agrees(void);
 
 /* The proved functions behind tests of their pointers. `memory` holds the state in its first sizeof(DeState) bytes and
- * is as it was unless there is a setting (or the state was made). An empty history may be a null pointer. */
+ * is as it was unless there is a setting, or the state was made or restored. An empty history may be a null pointer. */
 DeAnswer de_checked_new(void *memory, size_t size, const DeSetup *setup);
 DeAnswer de_checked_sample(void *memory, size_t size, const DeCall *call, const DeCompletedTrial *history,
                            size_t count);
 /* Here `kind` may also be one of the kinds from 16 on. */
 DeLook de_checked_look(const void *memory, size_t size);
 DeAnswer de_checked_slot_setting(const void *memory, size_t size, uint64_t slot, uint64_t dimension);
+/* An empty file may be a null pointer. */
+DeFile de_checked_save(const void *memory, size_t size, void *file, size_t room);
+DeFile de_checked_restore(void *memory, size_t size, const void *file, size_t length);
 
 #ifdef __cplusplus
 }

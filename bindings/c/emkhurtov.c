@@ -1,5 +1,5 @@
-/* The library's part in C: what C callers need before the proved functions (layouts, null pointers, short and
- * misaligned memory are tested), the version, and the refusals' texts. */
+/* The library's part in C: what C callers need before the proved functions (layouts, null pointers, short, misaligned
+ * and overlapping memory are tested), the version, and the refusals' texts. */
 #include <emkhurtov.h>
 
 /* On x86-64, the only machine that the library is built for, these follow from the header; a compiler that lays out
@@ -10,7 +10,7 @@ _Static_assert(offsetof(DeState, dims) == 88 && offsetof(DeState, candidates) ==
 _Static_assert(offsetof(DeState, parents) == 37208 && offsetof(DeState, n_trials) == 64088, "layout");
 _Static_assert(offsetof(DeState, idle) == 67700 && sizeof(DeState) == 67704, "layout");
 _Static_assert(sizeof(DeCall) == 88 && sizeof(DeAnswer) == 48 && sizeof(DeLook) == 1328, "layout");
-_Static_assert(sizeof(DeSetting) == 32 && sizeof(DeInternal) == 24, "layout");
+_Static_assert(sizeof(DeSetting) == 32 && sizeof(DeInternal) == 24 && sizeof(DeFile) == 24, "layout");
 
 const char *de_version(void) {
     return DE_VERSION;
@@ -30,6 +30,8 @@ const char *de_refusal_text(uint64_t refusal) {
         [DE_DIMENSIONS] = "the first trial asks for a 17th dimension",
         [DE_EXTRA_TRIALS] = "a 65th trial beyond the population asks in one generation",
         [DE_ENTRY_NAN] = "a new candidate would have an entry that is NaN",
+        [DE_BAD_FILE] = "the file is empty, cut off or its chain is broken, or the lent memory is too short for it",
+        [DE_BAD_CONTENT] = "what the file holds, or the state that is to be saved, is none that a sampler can have",
     };
     return refusal < sizeof texts / sizeof *texts ? texts[refusal] : "no refusal has this number";
 }
@@ -84,6 +86,10 @@ static int marked_internal(const DeInternal *i) {
     return i->kind == 1 && i->refusal == 2 && i->value == 3.0;
 }
 
+static int marked_file(const DeFile *f) {
+    return f->kind == 1 && f->refusal == 2 && f->length == 3;
+}
+
 int de_layout_agrees(void) {
     DeMarks m = de_marks();
     return marked_setup(&m.setup) && m.after_setup == 1 && marked_distribution(&m.distribution) &&
@@ -91,7 +97,7 @@ int de_layout_agrees(void) {
            m.after_call == 3 && marked_answer(&m.answer) && m.after_answer == 4 && marked_look(&m.look) &&
            m.after_look == 5 && marked_setting(&m.setting) && m.after_setting == 6 && marked_internal(&m.internal) &&
            m.after_internal == 7 && m.trial.number == 1 && m.trial.value == 2.0 && m.after_trial == 8 &&
-           marked_state(&m.state) && m.after_state == 9;
+           marked_state(&m.state) && m.after_state == 9 && marked_file(&m.file) && m.after_file == 10;
 }
 
 /* 0 where the memory can hold a state, else the kind of answer that says why not. */
@@ -141,4 +147,33 @@ DeAnswer de_checked_slot_setting(const void *memory, size_t size, uint64_t slot,
     DeAnswer answer = {0};
     answer.kind = unfit(memory, size);
     return answer.kind != 0 ? answer : de_slot_setting(memory, slot, dimension);
+}
+
+/* Whether the state's memory and a lent file have a byte in common. */
+static int overlap(const void *memory, const void *file, size_t length) {
+    uintptr_t state = (uintptr_t)memory, bytes = (uintptr_t)file;
+    return bytes < state ? state - bytes < length : length != 0 && bytes - state < sizeof(DeState);
+}
+
+/* 0 where the memory can hold a state and the file stands beside it, else the kind of answer that says why not. */
+static uint64_t unfit_with(const void *memory, size_t size, const void *file, size_t length) {
+    uint64_t kind = file == NULL && length != 0 ? DE_NULL_POINTER : unfit(memory, size);
+    return kind == 0 && overlap(memory, file, length) ? DE_OVERLAPPING : kind;
+}
+
+DeFile de_checked_save(const void *memory, size_t size, void *file, size_t room) {
+    uint8_t none = 0;
+    DeFile answer = {0};
+    answer.kind = unfit_with(memory, size, file, room);
+    return answer.kind != 0 ? answer : de_save(memory, file == NULL ? &none : file, room);
+}
+
+DeFile de_checked_restore(void *memory, size_t size, const void *file, size_t length) {
+    static const uint8_t none;
+    DeFile answer = {0};
+    answer.kind = unfit_with(memory, size, file, length);
+    if (answer.kind == 0 && !de_layout_agrees()) {
+        answer.kind = DE_LAYOUT;
+    }
+    return answer.kind != 0 ? answer : de_restore(memory, file == NULL ? &none : file, length);
 }
