@@ -21,6 +21,12 @@ pub const LOOK_BEST: u64 = 2;
 
 pub const INTERNAL_VALUE: u64 = 1;
 
+pub const SAVED: u64 = 1;
+pub const RESTORED: u64 = 2;
+
+pub const BAD_FILE: u64 = 12;
+pub const BAD_CONTENT: u64 = 13;
+
 #[repr(C)]
 #[derive(Clone, Copy)]
 pub struct DeSetup {
@@ -135,6 +141,14 @@ pub struct DeInternal {
     pub value: f64,
 }
 
+#[repr(C)]
+#[derive(Clone, Copy)]
+pub struct DeFile {
+    pub kind: u64,
+    pub refusal: u64,
+    pub length: u64,
+}
+
 /// One of each struct, its fields numbered (layout.rs).
 #[repr(C)]
 pub struct DeMarks {
@@ -156,6 +170,8 @@ pub struct DeMarks {
     pub after_trial: u64,
     pub state: DeState,
     pub after_state: u64,
+    pub file: DeFile,
+    pub after_file: u64,
 }
 
 unsafe extern "C" {
@@ -164,6 +180,8 @@ unsafe extern "C" {
     pub fn de_new(state: *mut DeState, setup: DeSetup) -> DeAnswer;
     pub fn de_look(state: *const DeState) -> DeLook;
     pub fn de_slot_setting(state: *const DeState, slot: u64, dimension: u64) -> DeAnswer;
+    pub fn de_save(state: *const DeState, file: *mut u8, room: usize) -> DeFile;
+    pub fn de_restore(state: *mut DeState, file: *const u8, length: usize) -> DeFile;
     pub safe fn de_to_internal(distribution: DeDistribution, setting: DeSetting) -> DeInternal;
     pub safe fn de_draw_ceiling(n: u64, n_dims: u64, strategy: u64) -> u64;
     pub safe fn de_marks() -> DeMarks;

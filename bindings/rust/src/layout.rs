@@ -15,7 +15,7 @@ const _: () = {
     assert!(offset_of!(DeState, parents) == 37208 && offset_of!(DeState, n_trials) == 64088);
     assert!(offset_of!(DeState, idle) == 67700 && size_of::<DeState>() == 67704);
     assert!(size_of::<DeCall>() == 88 && size_of::<DeAnswer>() == 48 && size_of::<DeLook>() == 1328);
-    assert!(size_of::<DeSetting>() == 32 && size_of::<DeInternal>() == 24);
+    assert!(size_of::<DeSetting>() == 32 && size_of::<DeInternal>() == 24 && size_of::<DeFile>() == 24);
 };
 
 /// Panics where the layouts differ. The comparison is made once.
@@ -131,6 +131,12 @@ impl Marked for DeState {
     }
 }
 
+impl Marked for DeFile {
+    fn marked(&self) -> bool {
+        [self.kind, self.refusal, self.length] == [1, 2, 3]
+    }
+}
+
 impl Marked for DeMarks {
     fn marked(&self) -> bool {
         (self.setup.marked() && self.after_setup == 1)
@@ -142,6 +148,7 @@ impl Marked for DeMarks {
             && (self.internal.marked() && self.after_internal == 7)
             && (self.trial.marked() && self.after_trial == 8)
             && (self.state.marked() && self.after_state == 9)
+            && (self.file.marked() && self.after_file == 10)
     }
 }
 
@@ -158,6 +165,9 @@ mod tests {
     fn a_shifted_field_is_noticed() {
         let mut marks = de_marks();
         marks.state.idle += 1;
+        assert!(!marks.marked());
+        let mut marks = de_marks();
+        marks.file.length += 1;
         assert!(!marks.marked());
         let mut marks = de_marks();
         std::mem::swap(&mut marks.distribution.low, &mut marks.distribution.high);

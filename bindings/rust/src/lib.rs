@@ -1,7 +1,7 @@
 //! The differential evolution sampler whose code is proved equal to a written definition (crates/exports of this
 //! repository), behind safe types.
 //!
-//! A call needs 1 MB of stack (860 KB were measured, and the tests run with 1 MB), which Rust's threads have unless they
+//! A call needs 1 MB of stack (870 KB were measured, and the tests run with 1 MB), which Rust's threads have unless they
 //! were told otherwise. Nothing is shared between samplers.
 //!
 //! A campaign asks the sampler for each trial's settings, measures, and lends the measured values back as the history:
@@ -21,6 +21,9 @@
 //! assert!(look.best_value() < 1.0 && (best - 100.0).abs() < 1.0);
 //! # Ok::<(), Refusal>(())
 //! ```
+//!
+//! A sampler can be saved after each trial ([`Sampler::save`]) and restored after a restart ([`Sampler::restore`]);
+//! examples/restart.rs does so.
 
 #![deny(missing_docs)]
 
@@ -30,12 +33,14 @@ mod ffi;
 mod layout;
 mod refusal;
 mod sampler;
+mod saved;
 mod types;
 
 pub use builder::SamplerBuilder;
 pub use ceiling::{MAX_DRAWS, draw_ceiling};
 pub use refusal::Refusal;
 pub use sampler::{Look, Sampled, Sampler, to_internal, version};
+pub use saved::{FileRefusal, MAX_FILE};
 pub use types::{
     CategoricalDistribution, CompletedTrial, DEStrategy, Distribution, FloatDistribution, IntDistribution, ParamValue,
 };
