@@ -6,9 +6,12 @@
 //! `draws NAME SEEN CEILING`: the largest count of draws that a call of the proved library made, and its ceiling.
 //! `generation` are the calls that close a generation or end discovery, `other` all others, `candidate` those of them
 //! whose trial already has a candidate. It stops where a call drew more.
+//!
+//! `saved/..`: a save and a restore through the proved library, and the refusal of a file whose chain never ends.
 
 mod draws;
 mod memory;
+mod saved;
 mod sides;
 
 use std::time::Instant;
@@ -182,4 +185,5 @@ fn main() {
         println!("ratio memory/rust-{n}-{d} {:.2}", p as f64 / r as f64);
     }
     draws::report();
+    saved::report();
 }
