@@ -1,5 +1,5 @@
 -- The code's writer and reader as a gateway uses them, and the calls that it can make.
-use Prim.Native.Nat.{ℕ}
+use Prim.Native.Nat.{ℕ, _≤_}
 use mathlib.Core.List.{List}
 use mathlib.Core.Option.{Option, none, some}
 use lib.ListN.{length, take}
@@ -10,7 +10,7 @@ use Rattle.evolution.specs.declared.Setup.{Setup}
 use Rattle.kernel.specs.De.{de}
 use Rattle.state.specs.declared.State.{State}
 use Rattle.de.specs.Build.{freshState}
-use Rattle.de.specs.Program.{program}
+use Rattle.de.specs.Program.{ran}
 use Rattle.kinds.specs.Typed.{Double, Word, TypedDistribution}
 use Rattle.saved.specs.Save.{saveOf, savedIn}
 use Rattle.saved.specs.Restore.{restoreOf}
@@ -26,8 +26,8 @@ keptBy (S.Length n) f = some (take n f)
 keptBy (S.Refused r) f = none
 
 -- lent is the memory that the gateway lends to `save`
-abbrev pub savedFile : List ℕ → State → Option (List ℕ)
-savedFile lent s = keptBy (saveOf s (length lent)) (savedIn s lent)
+abbrev pub savedFile : State → List ℕ → Option (List ℕ)
+savedFile s lent = keptBy (saveOf s (length lent)) (savedIn s lent)
 
 abbrev pub ifTaken : RestoreAnswer → State → Option State
 ifTaken R.Taken s = some s
@@ -37,9 +37,13 @@ ifTaken (R.Refused r) s = none
 abbrev pub restoredFrom : State → List ℕ → Option State
 restoredFrom old f = ifTaken (restoreOf old f .answer) (restoreOf old f .state)
 
+-- the state that a call leaves
+abbrev pub stepped : State → Call de → State
+stepped s c = (ran s c) .state
+
 -- the state that a gateway holds after events, from a fresh sampler of the set-up
-abbrev pub gateway : Setup → List ℕ → List (Event de) → State
-gateway S lent es = stateAfter de (program S) (List ℕ) (savedFile lent) (restoredFrom (freshState S)) es
+abbrev pub gateway : Setup → List (Event State (Call de)) → State
+gateway S es = stateAfter State (Call de) stepped (λ old. freshState S) savedFile restoredFrom (freshState S) es
 
 -- what the types say of a call: a number of 64 bits, and doubles and whole numbers of 64 bits in the distribution and the history
 pub record TypedCall (c : Call de) : Type 0 where
@@ -47,7 +51,12 @@ pub record TypedCall (c : Call de) : Type 0 where
   pub distribution : TypedDistribution (c .distribution .distribution)
   pub history : All (λ (e : CompletedTrial). Double (e .value)) (c .history)
 
-abbrev pub TypedEvent : Event de → Type 0
-TypedEvent (call c) = TypedCall c
-TypedEvent save = Unit {0}
-TypedEvent (reboot n) = Unit {0}
+-- a lent memory that has room for the largest file
+abbrev pub Room : List ℕ → Type 0
+Room lent = 73120 ≤ length lent
+
+-- typed calls, and room for each file; a reboot may leave any state, and name any file
+abbrev pub GoodEvent : Event State (Call de) → Type 0
+GoodEvent (call c) = TypedCall c
+GoodEvent (save lent) = Room lent
+GoodEvent (reboot n old) = Unit {0}
