@@ -117,7 +117,7 @@ module _ (f : DeState) (u : DeSetup) (known : knownSetup u ≡ true) (ok : isVal
 
   -- ---- the memory after the accepted set-up call
 
-  new-is : newState f u ≡ flatOf (freshState S)
+  pub new-is : newState f u ≡ flatOf (freshState S)
   unfolding newState settledSetup builtOf freshFlat
   new-is = rw known (go (setupVerdict S) ok)
     where

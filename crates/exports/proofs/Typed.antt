@@ -46,7 +46,7 @@ use Rattle.edge.specs.declared.flat.DeSetup.{DeSetup}
 use Rattle.edge.specs.declared.flat.DeState.{DeState}
 
 -- a machine value that the field's type relates to x
-abbrev Fits : (F : Field) → F .Value → Type 0
+abbrev pub Fits : (F : Field) → F .Value → Type 0
 Fits F x = (v : Val) × Is (F .row) (F .into x) (v ∷ [])
 
 -- of a struct by its fields, of an enum by its live variant's
@@ -67,7 +67,7 @@ size : (b : Bool) (n : ℕ) → n < 2 ^ 64 → Fits PS.the-field (cond b Unset (
 size true n h = enum-fits PS.the-type Unset [] (tt, (refl, tt))
 size false n h = enum-fits PS.the-type (Of n) (vint w64 n ∷ []) ((vint w64 n ∷ [], tt), (refl, ((refl, h), tt)))
 
-setup : (u : DeSetup) (vs : List Val) → Is (FlatU.the-field .row) (FlatU.the-field .into u) vs → Fits SU.the-field (setupOf u)
+pub setup : (u : DeSetup) (vs : List Val) → Is (FlatU.the-field .row) (FlatU.the-field .into u) vs → Fits SU.the-field (setupOf u)
 unfolding setupOf
 setup u vs p =
     let a = p .0 in
@@ -111,7 +111,7 @@ module _ (d : DeDistribution) (vs : List Val) (p : Is (FlatD.the-field .row) (Fl
   choice : Fits CD.the-field (record { «n_choices» = d .«n_choices» })
   choice = struct-fits CD.the-type (record { «n_choices» = d .«n_choices» }) (a .1 .1 .1 .1 .1 .1 .1 .1 .1) (q .1 .1 .1 .1 .1 .1 .1 .1 .1)
 
-  distribution : Fits DD.the-field (distributionOf d)
+  pub distribution : Fits DD.the-field (distributionOf d)
   unfolding distributionOf
   distribution = go (eqb (d .kind) 1) (eqb (d .kind) 2)
     where
