@@ -33,7 +33,7 @@ use Rattle.edge.specs.Known.{knownSetup}
 use Rattle.files.specs.declared.file.DeFile.{DeFile}
 use Rattle.files.specs.File.{nothing, readOf, refusedFile, saveAnswer, savedAnswer, saveFile, settledRestore}
 use Rattle.exports.specs.Calls.{newState, restoreAnswer, restoreState}
-use Rattle.exports.specs.Program.{Sent, called, isKnown, meant, meantBy, leaves, library, spelled}
+use Rattle.exports.specs.Program.{Sent, answerTo, called, isKnown, leaves, library, meant, meantBy, spelled}
 use Rattle.exports.proofs.Demand.{library-demand3, new-is}
 use Rattle.exports.proofs.Edge.{distribution-back, distribution-known, flat-known, heldAfter, lossless, one-state, same-state, unknown-state}
 use Rattle.restarts.specs.Gateway.{Room, TypedCall}
@@ -127,6 +127,7 @@ module _ (f : DeState) (u : DeSetup) (known : knownSetup u ≡ true) (ok : isVal
       let calls = library-demand3 f u known ok qs in
       record {
         memory = memory;
+        next = λ q. ap (λ (m : DeState). answerTo m q) memory;
         calls = calls;
         claim = one-claim de (library f u) S (meantBy qs) (memoryAfter f u es)
             (memory ∙ meant-led (newState f u) qs ∙ sym (end-led de (library f u) S (start de (library f u) S) (meantBy qs))) (calls .claim);

@@ -15,7 +15,7 @@ use Rattle.edge.specs.declared.flat.DeState.{DeState}
 use Rattle.edge.specs.Flat.{setupOf, openOf}
 use Rattle.files.specs.File.{saveAnswer, saveFile}
 use Rattle.exports.specs.Calls.{newState, restoreAnswer, restoreState}
-use Rattle.exports.specs.Program.{Sent, meant, meantBy, leaves, library, LibraryDemand3}
+use Rattle.exports.specs.Program.{Sent, answerTo, leaves, library, meant, meantBy, LibraryDemand3}
 use Rattle.restarts.specs.Gateway.{Room, TypedCall}
 use Rattle.restarts.specs.Restart.{Event, call, save, reboot, ledTo, stateAfter, surviving}
 
@@ -40,11 +40,13 @@ GoodEvent (call q) = TypedCall (meant q)
 GoodEvent (save lent) = Room lent
 GoodEvent (reboot n g) = Unit {0}
 
--- ONE LIST: the calls that count are those that survive
+-- ONE LIST: the calls that count are those that survive.
 pub record OneList (f : DeState) (u : DeSetup) (es : List (Event DeState Sent)) : Type 0 where
   -- the memory is, bit for bit, what these calls alone leave in it,
   pub memory : memoryAfter f u es ≡ ledTo DeState Sent leaves (newState f u) (surviving DeState Sent es)
-  -- demand 3 of the library holds of them,
+  -- so the next call is answered as if there had been no reboot;
+  pub next : (q : Sent) → answerTo (memoryAfter f u es) q ≡ answerTo (ledTo DeState Sent leaves (newState f u) (surviving DeState Sent es)) q
+  -- demand 3 of the library holds of these calls,
   pub calls : LibraryDemand3 f u (surviving DeState Sent es)
   -- and its claim, "for share and for least result alike", of the state in that memory
   pub claim :
