@@ -40,7 +40,7 @@ pub fn digit(b: u8) -> u64
 }
 
 // The number that s spells in base, unless it passes 64 bits on the way.
-fn number(s: &[u8], base: u64) -> WholeWord
+pub fn number(s: &[u8], base: u64) -> WholeWord
     requires { ⌜ 0 < base ⌝ }
     ensures { λ r. ⌜ r ≡ numberOf base (now (s .entry)) ⌝ }
 {
