@@ -8,6 +8,7 @@ ghost use Rattle.edge.specs.Look.{lookAt};
 ghost use Rattle.edge.specs.Held.{heldAt};
 ghost use Rattle.edge.specs.Internal.{internalOf};
 ghost use Rattle.files.specs.File.{saveAnswer, saveFile};
+ghost use Rattle.files.specs.Read.{readAnswer, readHistory};
 ghost use Rattle.exports.specs.Ceiling.{ceilingAt};
 ghost use Rattle.layout.specs.Marks.{marks};
 use de::ceiling::draw_ceiling;
@@ -33,9 +34,12 @@ use files::file::DeFile;
 use files::file::read_file;
 use files::file::save_at;
 use files::file::settle_restored;
+use files::read::DeRead;
+use files::read::read_answer;
 use history::CompletedTrial;
 use layout::marks::DeMarks;
 use layout::marks::marked;
+use metrics::read_history;
 
 // A state from a set-up. What is lent is written only where the set-up is accepted, and never read.
 #[no_mangle]
@@ -123,6 +127,15 @@ pub extern "C" fn de_restore(state: &mut DeState, file: &[u8]) -> DeFile
         *state = flatten(r.state);
     }
     o.answer
+}
+
+// The entries of a metrics export, into the lent history. A refusal leaves it as it was.
+#[no_mangle]
+pub extern "C" fn de_read_history(text: &[u8], history: &mut [CompletedTrial]) -> DeRead
+    ensures { λ r. ⌜ (r ≡ readAnswer (now (text .entry)) (length (now (history .entry)))) × (now (history .exit) ≡ readHistory (now (text .entry)) (now (history .entry))) ⌝ }
+{
+    let answer = read_history(text, history);
+    read_answer(answer)
 }
 
 // The layout that the library has.

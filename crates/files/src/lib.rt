@@ -1,2 +1,3 @@
-// The save call and the restore call in numbers: what crosses to callers.
+// The calls on files in numbers: what crosses to callers of the save call, the restore call and the read call.
 pub mod file;
+pub mod read;

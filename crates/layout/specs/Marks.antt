@@ -16,6 +16,7 @@ use Rattle.history.specs.declared.CompletedTrial.{CompletedTrial}
 use Rattle.edge.specs.declared.answers.DeAnswer.{DeAnswer}
 use Rattle.edge.specs.declared.answers.DeCall.{DeCall}
 use Rattle.files.specs.declared.file.DeFile.{DeFile}
+use Rattle.files.specs.declared.read.DeRead.{DeRead}
 use Rattle.edge.specs.declared.flat.DeSetup.{DeSetup}
 use Rattle.edge.specs.declared.flat.DeDistribution.{DeDistribution}
 use Rattle.edge.specs.declared.flat.DeState.{DeState}
@@ -87,6 +88,9 @@ completedMarks = record { number = 1; value = real 2 }
 
 abbrev pub fileMarks : DeFile
 fileMarks = record { kind = 1; refusal = 2; length = 3 }
+
+abbrev pub readMarks : DeRead
+readMarks = record { kind = 1; refusal = 2; count = 3; line = 4 }
 
 -- ---- the state
 
@@ -165,4 +169,6 @@ marks =
       «after_state» = 9;
       file = fileMarks;
       «after_file» = 10;
+      read = readMarks;
+      «after_read» = 11;
     }

@@ -13,6 +13,7 @@ use crate::numbered::internal_marks;
 use crate::numbered::look_marks;
 use crate::numbered::member_marks;
 use crate::numbered::progress_marks;
+use crate::numbered::read_marks;
 use crate::numbered::setting_marks;
 use crate::numbered::setup_marks;
 use candidates::Candidate;
@@ -27,6 +28,7 @@ use edge::internal::DeSetting;
 use edge::look::DeLook;
 use evolution::Member;
 use files::file::DeFile;
+use files::read::DeRead;
 use history::CompletedTrial;
 use selection::blank_member;
 use state::TrialProgress;
@@ -53,6 +55,8 @@ pub struct DeMarks {
     pub after_state: u64,
     pub file: DeFile,
     pub after_file: u64,
+    pub read: DeRead,
+    pub after_read: u64,
 }
 
 fn marked_dims() -> [DeDistribution; 16]
@@ -159,6 +163,7 @@ pub fn marked() -> DeMarks
     let internal = internal_marks();
     let trial = completed_marks();
     let file = file_marks();
+    let read = read_marks();
     DeMarks {
         setup,
         after_setup: 1,
@@ -180,5 +185,7 @@ pub fn marked() -> DeMarks
         after_state: 9,
         file,
         after_file: 10,
+        read,
+        after_read: 11,
     }
 }

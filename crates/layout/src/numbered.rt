@@ -1,6 +1,6 @@
 // The small structs that cross, each with its own fields numbered from 1 on in the order of declaration (specs/Marks).
 ghost use mathlib.Core.Path.{_≡_};
-ghost use Rattle.layout.specs.Marks.{setupMarks, distributionMarks, candidateMarks, memberMarks, progressMarks, lookMarks, answerMarks, settingMarks, internalMarks, completedMarks, fileMarks};
+ghost use Rattle.layout.specs.Marks.{setupMarks, distributionMarks, candidateMarks, memberMarks, progressMarks, lookMarks, answerMarks, settingMarks, internalMarks, completedMarks, fileMarks, readMarks};
 use candidates::Candidate;
 use edge::answers::DeAnswer;
 use edge::flat::DeDistribution;
@@ -10,6 +10,7 @@ use edge::internal::DeSetting;
 use edge::look::DeLook;
 use evolution::Member;
 use files::file::DeFile;
+use files::read::DeRead;
 use history::CompletedTrial;
 use state::TrialProgress;
 
@@ -141,5 +142,16 @@ pub fn file_marks() -> DeFile
         kind: 1,
         refusal: 2,
         length: 3,
+    }
+}
+
+pub fn read_marks() -> DeRead
+    ensures { λ r. ⌜ r ≡ readMarks ⌝ }
+{
+    DeRead {
+        kind: 1,
+        refusal: 2,
+        count: 3,
+        line: 4,
     }
 }

@@ -34,9 +34,12 @@ completed-marks-requires c κs = search needs
 file-marks-requires : tie.Need-file-marks-requires
 file-marks-requires c κs = search needs
 
+read-marks-requires : tie.Need-read-marks-requires
+read-marks-requires c κs = search needs
+
 returns : tie.Need-returns
 unfolding marks
-returns c = rw (c .before .before .before .before .before .before .before .before .before .setup-marks .ensures, c .before .before .before .before .before .before .before .before .distribution-marks .ensures, c .before .before .before .before .before .before .before .marked-call .ensures, c .before .before .before .before .before .before .look-marks .ensures, c .before .before .before .before .before .marked-state .ensures, c .before .before .before .before .answer-marks .ensures, c .before .before .before .setting-marks .ensures, c .before .before .internal-marks .ensures, c .before .completed-marks .ensures, c .file-marks .ensures)
+returns c = rw (c .before .before .before .before .before .before .before .before .before .before .setup-marks .ensures, c .before .before .before .before .before .before .before .before .before .distribution-marks .ensures, c .before .before .before .before .before .before .before .before .marked-call .ensures, c .before .before .before .before .before .before .before .look-marks .ensures, c .before .before .before .before .before .before .marked-state .ensures, c .before .before .before .before .before .answer-marks .ensures, c .before .before .before .before .setting-marks .ensures, c .before .before .before .internal-marks .ensures, c .before .before .completed-marks .ensures, c .before .file-marks .ensures, c .read-marks .ensures)
 
 pub marked-spec : {M : Type 1} → statement M
 marked-spec =
@@ -52,4 +55,5 @@ marked-spec =
     internal-marks-requires
     completed-marks-requires
     file-marks-requires
+    read-marks-requires
     returns)
