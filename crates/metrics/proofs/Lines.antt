@@ -36,7 +36,7 @@ left text at = cutAt LF (drop at text)
 next-of : (at : ℕ) (line s : List ℕ) → nextIn at (line ∷ cutAt LF s) ≡ until (at + length line + 1) (lineOf line)
 next-of at line s = rw (first-piece LF s)
 
-lines-of : (k : ℕ) (line s : List ℕ) → linesFrom k (line ∷ cutAt LF s) ≡ after k (lineOf line) (linesFrom (suc k) (cutAt LF s))
+pub lines-of : (k : ℕ) (line s : List ℕ) → linesFrom k (line ∷ cutAt LF s) ≡ after k (lineOf line) (linesFrom (suc k) (cutAt LF s))
 unfolding linesFrom
 lines-of k line s = rw (first-piece LF s)
 
