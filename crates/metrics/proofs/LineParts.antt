@@ -135,8 +135,9 @@ pub line-taken : (p : Parts) → Lawful p → lineOf (bodyText p) ≡ Line.Entry
 unfolding lineOf
 line-taken p l =
     let clear = digits-clear (code ",") (no-digit .0) (p .number) (l .number-digits) in
-    ap fields (split-clear (code ",") (p .number) (valueText p) clear)
-    ∙ rw (number-taken (p .number) (l .number-digits) (l .some-number) (l .few-number) (l .number-fits), value-taken (p .minus) (p .whole) (p .fraction) (l .digits, l .some, l .few))
+    let number = number-taken (p .number) (l .number-digits) (l .some-number) (l .few-number) (l .number-fits) in
+    let value = value-taken (p .minus) (p .whole) (p .fraction) (l .digits, l .some, l .few) in
+    ap fields (split-clear (code ",") (p .number) (valueText p) clear) ∙ rw (number, value)
 
 -- no line feed stands within a line
 pub line-clear : (p : Parts) → Lawful p → Clear (code "\n") (bodyText p)

@@ -111,3 +111,6 @@ left-is give places (malformed k) lent l = refl
 -- n of the code is the count of the entries that are written
 pub count-is : (places : ℕ) (x : Export) (r : ReadAnswer) (n : ℕ) → r ≡ answerOf places x → n ≡ counted r → n ≡ length (chosen places x)
 count-is places x r n e h = h ∙ ap counted e ∙ counted-is places x
+
+pub count-fits : (places : ℕ) (x : Export) (r : ReadAnswer) (n : ℕ) → r ≡ answerOf places x → n ≡ counted r → n ≤ places
+count-fits places x r n e h = subst (λ (m : ℕ). m ≤ places) (sym (count-is places x r n e h)) (chosen-fits places x)

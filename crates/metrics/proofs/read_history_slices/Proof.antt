@@ -2,13 +2,13 @@
 use borrow.Author.Needs.{needs}
 use native.Mathlib.Omega.{arith}
 use mathlib.Core.Path.{_≡_, refl, ap, _∙_}
-use Prim.Native.Nat.{ℕ, _-_, _≤_}
+use Prim.Native.Nat.{ℕ, _-_, _≤_, _<_}
 use mathlib.Core.List.{map}
 use lib.ListN.{length, drop, length-set}
 use lib.Seq.{sets}
 use Rattle.metrics.specs.Export.{exportOf, answerOf, leftIn, numberOf, valueOf}
 use Rattle.metrics.specs.Steps.{chosen}
-use Rattle.metrics.proofs.Writes.{Reading, reading-first, reading-next, write-next, write-done, left-is, count-is, chosen-fits}
+use Rattle.metrics.proofs.Writes.{Reading, reading-first, reading-next, write-next, write-done, left-is, count-is, count-fits}
 use Rattle.metrics.proofs.read_history_slices.Statement.{statement}
 use Rattle.metrics.proofs.read_history_slices.Tie as tie
 
@@ -31,22 +31,53 @@ to-write-requires : tie.Need-to-write-requires Inv-loop μ-loop
 to-write-requires c κs = search needs
 
 loop-holds : tie.Need-loop-holds Inv-loop μ-loop
-loop-holds c = (omega arith, refl, refl, reading-first (c .before .before .before .before .before .before .args .text .now) (c .before .before .least .result), refl, refl)
+loop-holds c =
+    let c₂ = c .before .before in
+    let c₆ = c₂ .before .before .before .before in
+    (omega arith, refl, refl, reading-first (c₆ .args .text .now) (c₂ .least .result), refl, refl)
 
 step-at-requires : tie.Need-step-at-requires Inv-loop μ-loop
 step-at-requires c κs = search needs
 
 mul-numbers : tie.Need-mul-numbers Inv-loop μ-loop
-mul-numbers c = let n = count-is (c .before .before .before .before .before .before .least .result) (exportOf (c .before .before .before .before .before .before .before .before .before .before .args .text .now)) (c .before .before .before .before .before .judge .result) (c .before .before .before .before .to-write .result) (c .before .before .before .before .before .judge .ensures) (c .before .before .before .before .to-write .ensures) in let f = chosen-fits (c .before .before .before .before .before .before .least .result) (exportOf (c .before .before .before .before .before .before .before .before .before .before .args .text .now)) in let m = c .before .before .before .before .before .before .least .ensures in search needs
+mul-numbers c =
+    let c₄ = c .before .before .before .before in
+    let c₅ = c₄ .before in
+    let c₆ = c₅ .before in
+    let c₁₀ = c₆ .before .before .before .before in
+    let f = count-fits (c₆ .least .result) (exportOf (c₁₀ .args .text .now)) _ _ (c₅ .judge .ensures) (c₄ .to-write .ensures) in
+    let m = c₆ .least .ensures in
+    search needs
 
 slice-write-numbers : tie.Need-slice-write-numbers Inv-loop μ-loop
-slice-write-numbers c = let n = count-is (c .before .before .before .before .before .before .least .result) (exportOf (c .before .before .before .before .before .before .before .before .before .before .args .text .now)) (c .before .before .before .before .before .judge .result) (c .before .before .before .before .to-write .result) (c .before .before .before .before .before .judge .ensures) (c .before .before .before .before .to-write .ensures) in let f = chosen-fits (c .before .before .before .before .before .before .least .result) (exportOf (c .before .before .before .before .before .before .before .before .before .before .args .text .now)) in let m = c .before .before .before .before .before .before .least .ensures in omega arith
+slice-write-numbers c =
+    let c₄ = c .before .before .before .before in
+    let c₅ = c₄ .before in
+    let c₆ = c₅ .before in
+    let c₁₀ = c₆ .before .before .before .before in
+    let f = count-fits (c₆ .least .result) (exportOf (c₁₀ .args .text .now)) _ _ (c₅ .judge .ensures) (c₄ .to-write .ensures) in
+    let m = c₆ .least .ensures in
+    omega arith
 
 mul-values : tie.Need-mul-values Inv-loop μ-loop
-mul-values c = let n = count-is (c .before .before .before .before .before .before .least .result) (exportOf (c .before .before .before .before .before .before .before .before .before .before .args .text .now)) (c .before .before .before .before .before .judge .result) (c .before .before .before .before .to-write .result) (c .before .before .before .before .before .judge .ensures) (c .before .before .before .before .to-write .ensures) in let f = chosen-fits (c .before .before .before .before .before .before .least .result) (exportOf (c .before .before .before .before .before .before .before .before .before .before .args .text .now)) in let m = c .before .before .before .before .before .before .least .ensures in search needs
+mul-values c =
+    let c₄ = c .before .before .before .before in
+    let c₅ = c₄ .before in
+    let c₆ = c₅ .before in
+    let c₁₀ = c₆ .before .before .before .before in
+    let f = count-fits (c₆ .least .result) (exportOf (c₁₀ .args .text .now)) _ _ (c₅ .judge .ensures) (c₄ .to-write .ensures) in
+    let m = c₆ .least .ensures in
+    search needs
 
 slice-write-values : tie.Need-slice-write-values Inv-loop μ-loop
-slice-write-values c = let n = count-is (c .before .before .before .before .before .before .least .result) (exportOf (c .before .before .before .before .before .before .before .before .before .before .args .text .now)) (c .before .before .before .before .before .judge .result) (c .before .before .before .before .to-write .result) (c .before .before .before .before .before .judge .ensures) (c .before .before .before .before .to-write .ensures) in let f = chosen-fits (c .before .before .before .before .before .before .least .result) (exportOf (c .before .before .before .before .before .before .before .before .before .before .args .text .now)) in let m = c .before .before .before .before .before .before .least .ensures in omega arith
+slice-write-values c =
+    let c₄ = c .before .before .before .before in
+    let c₅ = c₄ .before in
+    let c₆ = c₅ .before in
+    let c₁₀ = c₆ .before .before .before .before in
+    let f = count-fits (c₆ .least .result) (exportOf (c₁₀ .args .text .now)) _ _ (c₅ .judge .ensures) (c₄ .to-write .ensures) in
+    let m = c₆ .least .ensures in
+    omega arith
 
 add-i : tie.Need-add-i Inv-loop μ-loop
 add-i c = omega arith
@@ -55,14 +86,24 @@ loop-less : tie.Need-loop-less Inv-loop μ-loop
 loop-less c = omega arith
 
 loop-again : tie.Need-loop-again Inv-loop μ-loop
-loop-again c = let n = count-is (c .before .before .before .before .before .before .least .result) (exportOf (c .before .before .before .before .before .before .before .before .before .before .args .text .now)) (c .before .before .before .before .before .judge .result) (c .before .before .before .before .to-write .result) (c .before .before .before .before .before .judge .ensures) (c .before .before .before .before .to-write .ensures) in let f = chosen-fits (c .before .before .before .before .before .before .least .result) (exportOf (c .before .before .before .before .before .before .before .before .before .before .args .text .now)) in let m = c .before .before .before .before .before .before .least .ensures in (
-  omega arith,
-  length-set (c .before .before .before .loop .numbers) (c .before .before .before .loop .i) _ ∙ c .before .before .before .loop .inv .1,
-  length-set (c .before .before .before .loop .values) (c .before .before .before .loop .i) _ ∙ c .before .before .before .loop .inv .2,
-  reading-next (c .before .before .before .before .before .before .before .before .before .before .args .text .now) (chosen (c .before .before .before .before .before .before .least .result) (exportOf (c .before .before .before .before .before .before .before .before .before .before .args .text .now))) (c .before .before .before .loop .i) (c .before .before .before .loop .at) (omega arith) (c .before .before .before .loop .inv .3) (c .before .step-at .result) (c .before .step-at .ensures),
-  write-next (c .before .before .before .before .before .before .before .before .before .before .args .text .now) (chosen (c .before .before .before .before .before .before .least .result) (exportOf (c .before .before .before .before .before .before .before .before .before .before .args .text .now))) (c .before .before .before .loop .i) (c .before .before .before .loop .at) (omega arith) (c .before .before .before .loop .inv .3) (c .before .step-at .result) (c .before .step-at .ensures) numberOf (c .before .before .before .loop .numbers) _ (c .before .before .before .loop .inv .4),
-  write-next (c .before .before .before .before .before .before .before .before .before .before .args .text .now) (chosen (c .before .before .before .before .before .before .least .result) (exportOf (c .before .before .before .before .before .before .before .before .before .before .args .text .now))) (c .before .before .before .loop .i) (c .before .before .before .loop .at) (omega arith) (c .before .before .before .loop .inv .3) (c .before .step-at .result) (c .before .step-at .ensures) valueOf (c .before .before .before .loop .values) _ (c .before .before .before .loop .inv .5),
-)
+loop-again c =
+    let c₃ = c .before .before .before in
+    let c₄ = c₃ .before in
+    let c₅ = c₄ .before in
+    let c₆ = c₅ .before in
+    let text = c₆ .before .before .before .before .args .text .now in
+    let ts = chosen (c₆ .least .result) (exportOf text) in
+    let i = c₃ .loop .i in
+    let n = count-is (c₆ .least .result) (exportOf text) (c₅ .judge .result) (c₄ .to-write .result) (c₅ .judge .ensures) (c₄ .to-write .ensures) in
+    let step = c .before .step-at in
+    let here : i < length ts = omega arith in (
+      omega arith,
+      length-set (c₃ .loop .numbers) i _ ∙ c₃ .loop .inv .1,
+      length-set (c₃ .loop .values) i _ ∙ c₃ .loop .inv .2,
+      reading-next text ts i (c₃ .loop .at) here (c₃ .loop .inv .3) (step .result) (step .ensures),
+      write-next text ts i (c₃ .loop .at) here (c₃ .loop .inv .3) (step .result) (step .ensures) numberOf (c₃ .loop .numbers) _ (c₃ .loop .inv .4),
+      write-next text ts i (c₃ .loop .at) here (c₃ .loop .inv .3) (step .result) (step .ensures) valueOf (c₃ .loop .values) _ (c₃ .loop .inv .5),
+    )
 
 same-length : tie.Need-same-length Inv-loop μ-loop
 same-length c = c .before .loop .inv .1
@@ -72,14 +113,21 @@ same-length-2 c = c .before .loop .inv .2
 
 returns : tie.Need-returns Inv-loop μ-loop
 returns c =
-    let n = count-is (c .before .before .before .before .least .result) (exportOf (c .before .before .before .before .before .before .before .before .args .text .now)) (c .before .before .before .judge .result) (c .before .before .to-write .result) (c .before .before .before .judge .ensures) (c .before .before .to-write .ensures) in
-    let m = c .before .before .before .before .least .ensures in
-    let x = exportOf (c .before .before .before .before .before .before .before .before .args .text .now) in
-    let ts = chosen (c .before .before .before .before .least .result) x in (
-      c .before .before .before .judge .ensures ∙ ap (λ (p : ℕ). answerOf p x) m,
+    let c₁ = c .before in
+    let c₂ = c₁ .before in
+    let c₃ = c₂ .before in
+    let c₄ = c₃ .before in
+    let c₈ = c₄ .before .before .before .before in
+    let x = exportOf (c₈ .args .text .now) in
+    let n = count-is (c₄ .least .result) x (c₃ .judge .result) (c₂ .to-write .result) (c₃ .judge .ensures) (c₂ .to-write .ensures) in
+    let m = c₄ .least .ensures in
+    let ts = chosen (c₄ .least .result) x in (
+      c₃ .judge .ensures ∙ ap (λ (p : ℕ). answerOf p x) m,
       (
-        write-done numberOf ts (c .before .loop .i) (c .before .loop .numbers) _ (omega arith) (c .before .loop .inv .4) ∙ left-is numberOf (c .before .before .before .before .least .result) x (c .before .before .before .before .before .before .before .before .args .numbers .now) (omega arith) ∙ ap (λ (p : ℕ). leftIn numberOf p x (c .before .before .before .before .before .before .before .before .args .numbers .now)) m,
-        write-done valueOf ts (c .before .loop .i) (c .before .loop .values) _ (omega arith) (c .before .loop .inv .5) ∙ left-is valueOf (c .before .before .before .before .least .result) x (c .before .before .before .before .before .before .before .before .args .values .now) (omega arith) ∙ ap (λ (p : ℕ). leftIn valueOf p x (c .before .before .before .before .before .before .before .before .args .values .now)) m,
+        write-done numberOf ts (c₁ .loop .i) (c₁ .loop .numbers) _ (omega arith) (c₁ .loop .inv .4)
+            ∙ left-is numberOf (c₄ .least .result) x (c₈ .args .numbers .now) (omega arith) ∙ ap (λ (p : ℕ). leftIn numberOf p x (c₈ .args .numbers .now)) m,
+        write-done valueOf ts (c₁ .loop .i) (c₁ .loop .values) _ (omega arith) (c₁ .loop .inv .5)
+            ∙ left-is valueOf (c₄ .least .result) x (c₈ .args .values .now) (omega arith) ∙ ap (λ (p : ℕ). leftIn valueOf p x (c₈ .args .values .now)) m,
       ),
     )
 
