@@ -17,7 +17,8 @@ use Rattle.numbers.specs.declared.WholeWord.the-variants as Whole
 use Rattle.numbers.specs.declared.DoubleWord.{DoubleWord}
 use Rattle.numbers.specs.declared.DoubleWord.the-variants as Double
 use Rattle.metrics.specs.Pieces.{Halves, whole, halves, splitAt}
-use Rattle.metrics.specs.Value.{nearestDouble, decimalOf, pointed, unsignedOf, valueWord}
+use Rattle.metrics.specs.Value.{decimalOf, pointed, unsignedOf, valueWord}
+use Rattle.metrics.specs.Nearest.{nearestDouble}
 use Rattle.metrics.specs.Line.{trialNumber, trial, fields, lineOf}
 use Rattle.metrics.specs.Grammar.{Parts, Lawful, signOf, pointOf, valueText, bodyText, meant}
 use Rattle.metrics.specs.declared.line.LineRead.{LineRead}

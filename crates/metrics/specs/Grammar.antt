@@ -9,7 +9,7 @@ use lib.Dec.{eqb}
 use lib.ListN.{length}
 use Rattle.history.specs.declared.CompletedTrial.{CompletedTrial}
 use Rattle.numbers.specs.Numbers.{allDigits, speltAfter}
-use Rattle.metrics.specs.Value.{nearestDouble}
+use Rattle.metrics.specs.Nearest.{nearestDouble}
 
 -- ---- the grammar
 

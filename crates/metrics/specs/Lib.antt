@@ -1,7 +1,7 @@
 pub mod Pieces
-pub mod Value
 pub mod Nearest
-pub mod Line
 pub mod Grammar
+pub mod Value
+pub mod Line
 pub mod Export
 pub mod Steps
