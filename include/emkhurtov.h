@@ -1,10 +1,10 @@
 /* The differential evolution sampler for C callers. Link with libemkhurtov.a (lib/x86_64-linux, or by pkg-config).
  *
- * The functions de_new, de_sample, de_look, de_slot_setting, de_save, de_restore, de_to_internal and de_draw_ceiling
- * are the proved code itself (crates/exports); what each promises stands beside it and is proved there for every memory
- * content and every argument. They take references, so a pointer that they are given must be valid. The functions
- * de_checked_* below test what a pointer's callers get wrong (null, too short, misaligned, overlapping) and then call
- * them.
+ * The functions de_new, de_sample, de_look, de_slot_setting, de_save, de_restore, de_read_history, de_to_internal and
+ * de_draw_ceiling are the proved code itself (crates/exports); what each promises stands beside it and is proved there
+ * for every memory content and every argument. They take references, so a pointer that they are given must be valid.
+ * The functions de_checked_* below test what a pointer's callers get wrong (null, too short, misaligned, overlapping)
+ * and then call them.
  *
  * Numbers stand for cases; a number that names no case is answered, never guessed at. Nothing here allocates, locks, or
  * keeps anything between calls: a state is all there is, the caller owns it, and two states never touch each other.
@@ -21,9 +21,9 @@
 extern "C" {
 #endif
 
-#define DE_VERSION "0.4.0"
+#define DE_VERSION "0.5.0"
 #define DE_VERSION_MAJOR 0
-#define DE_VERSION_MINOR 4
+#define DE_VERSION_MINOR 5
 #define DE_VERSION_PATCH 0
 
 /* The version of the library that is linked: DE_VERSION, where it is this header's. */
@@ -59,7 +59,7 @@ enum {
     DE_SHORT_BUFFER = 17, /* the memory is smaller than DeState */
     DE_MISALIGNED = 18,
     DE_LAYOUT = 19,     /* this header and the library that is linked do not lay out the structs alike */
-    DE_OVERLAPPING = 20 /* the lent file and the state's memory have a byte in common */
+    DE_OVERLAPPING = 20 /* the lent file and the state's memory, or the text and the history, have a byte in common */
 };
 
 /* The kinds of a look. */
@@ -78,6 +78,9 @@ enum {
     DE_RESTORED = 2
 };
 
+/* The kind of a DeRead, beside DE_REFUSED and those from 16 on. */
+enum { DE_READ = 1 }; /* the history's first `count` places are the entries of the export */
+
 /* Why a call was refused. */
 enum {
     DE_STATE_NOT_SOUND = 0, /* no state that a sampler can have: memory that was not set up, or was changed */
@@ -93,8 +96,11 @@ enum {
     DE_EXTRA_TRIALS = 10,   /* a 65th trial beyond the population in one generation */
     DE_ENTRY_NAN = 11,      /* a new candidate would have an entry that is NaN */
     /* Of saved files alone; docs/SAVED.md has both checks word by word. */
-    DE_BAD_FILE = 12,   /* empty, no multiple of 32 bytes, a broken chain; in saving: the lent memory is too short */
-    DE_BAD_CONTENT = 13 /* what the file holds, or the state that is to be saved, is none that a sampler can have */
+    DE_BAD_FILE = 12,    /* empty, no multiple of 32 bytes, a broken chain; in saving: the lent memory is too short */
+    DE_BAD_CONTENT = 13, /* what the file holds, or the state that is to be saved, is none that a sampler can have */
+    /* Of metrics exports alone. */
+    DE_MALFORMED_LINE = 14, /* a line is malformed; `line` is the number of the first such line, from 1 */
+    DE_SHORT_HISTORY = 15   /* every line is well, and the lent history has fewer places than there are entries */
 };
 
 /* What a refusal says, in a sentence without its number; of a number that is no refusal, that it is none. */
@@ -215,6 +221,13 @@ typedef struct DeFile {
     uint64_t length; /* DE_SAVED: of the file, in bytes; else 0 */
 } DeFile;
 
+typedef struct DeRead {
+    uint64_t kind; /* DE_REFUSED or DE_READ; of the checked function also one of the kinds from 16 on */
+    uint64_t refusal;
+    uint64_t count; /* DE_READ: how many entries were read; else 0 */
+    uint64_t line;  /* DE_MALFORMED_LINE: the line's number, from 1; else 0 */
+} DeRead;
+
 /* Sets up *state: DE_MADE; or DE_REFUSED by DE_MUTATION_FACTOR, DE_CROSSOVER_RATE or DE_POPULATION_SIZE, the first that
  * applies; or DE_UNKNOWN. Unless it is DE_MADE, *state is as it was. */
 DeAnswer de_new(DeState *state, DeSetup setup);
@@ -256,6 +269,23 @@ DeFile de_save(const DeState *state, uint8_t *file, size_t room);
  * holds before is never read, as in de_new. The history is no part of a file: it stays the caller's, and docs/GUIDE.md
  * says what it must hold after a restart. */
 DeFile de_restore(DeState *state, const uint8_t *file, size_t length);
+
+/* Reads a metrics export into a history that de_sample can be lent: DE_READ with the count of entries, which stand in
+ * the history's first places in the text's order; no place past them is touched. An empty text has none. Or DE_REFUSED:
+ * by DE_MALFORMED_LINE with the number of the first malformed line, then, once every line has been read well, by
+ * DE_SHORT_HISTORY where `places` is less than the count; nothing is written then.
+ *
+ * A line is a trial number, a comma, a value and a line feed; the last line has its line feed too. Nothing else is in
+ * it: no space, no plus sign, no exponent, no carriage return, no `inf`, no `nan`; and no line is empty.
+ *
+ * - A trial number is 1 to 20 digits and at most 2^64 - 1. It may have zeros in front.
+ * - A value is perhaps a minus, then 1 to 15 digits in all, with at most one point, which stands between two of them.
+ *   It becomes the double nearest to the decimal, ties to even. A minus with zero gives minus zero. No value is NaN or
+ *   infinite, so a trial that was killed is told beside the export.
+ *
+ * A well-formed export has exactly as many entries as line feeds: count these to know the places that it needs. Two
+ * lines with one number are two entries; de_sample says which counts. */
+DeRead de_read_history(const uint8_t *text, size_t length, DeCompletedTrial *history, size_t places);
 
 /* The double that a setting stands for; refusals 4 to 7 of the distribution, and DE_BOUNDS for an Int setting past
  * 2^53; 0.0 where the kinds differ. */
@@ -306,6 +336,8 @@ typedef struct DeMarks {
     uint64_t after_state;
     DeFile file;
     uint64_t after_file;
+    DeRead read;
+    uint64_t after_read;
 } DeMarks;
 
 DeMarks de_marks(void);
@@ -324,6 +356,8 @@ DeAnswer de_checked_slot_setting(const void *memory, size_t size, uint64_t slot,
 /* An empty file may be a null pointer. */
 DeFile de_checked_save(const void *memory, size_t size, void *file, size_t room);
 DeFile de_checked_restore(void *memory, size_t size, const void *file, size_t length);
+/* An empty text may be a null pointer, and so may a history of no places. */
+DeRead de_checked_read_history(const void *text, size_t length, DeCompletedTrial *history, size_t places);
 
 #ifdef __cplusplus
 }

@@ -42,9 +42,9 @@ fn endless(records: usize) -> Vec<u8> {
     file
 }
 
-/// The least time of many rounds, in nanoseconds.
-fn least(mut run: impl FnMut()) -> f64 {
-    (0..ROUNDS).fold(f64::INFINITY, |least, _| {
+/// The least time of some rounds, in nanoseconds.
+pub fn least(rounds: usize, mut run: impl FnMut()) -> f64 {
+    (0..rounds).fold(f64::INFINITY, |least, _| {
         let start = Instant::now();
         run();
         least.min(start.elapsed().as_nanos() as f64)
@@ -58,11 +58,11 @@ pub fn report() {
         let sampler = full(n, d);
         let file = sampler.save();
         println!("bytes saved/file-{n}-{d} {}", file.len());
-        let save = least(|| {
+        let save = least(ROUNDS, || {
             black_box(sampler.save_to(black_box(&mut lent)).unwrap());
         });
         println!("time saved/save-{n}-{d} {save:.0}");
-        let restore = least(|| {
+        let restore = least(ROUNDS, || {
             black_box(Sampler::restore(black_box(&file)).unwrap());
         });
         println!("time saved/restore-{n}-{d} {restore:.0}");
@@ -70,7 +70,7 @@ pub fn report() {
     }
     for records in RECORDS {
         let file = endless(records);
-        let refuse = least(|| {
+        let refuse = least(ROUNDS, || {
             let answer = Sampler::restore(black_box(&file));
             assert_eq!(answer.err(), Some(FileRefusal::BadFile));
         });

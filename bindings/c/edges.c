@@ -131,12 +131,12 @@ static void words(void) {
     char numbers[40];
     snprintf(numbers, sizeof numbers, "%d.%d.%d", DE_VERSION_MAJOR, DE_VERSION_MINOR, DE_VERSION_PATCH);
     EXPECT(strcmp(de_version(), DE_VERSION) == 0 && strcmp(numbers, DE_VERSION) == 0);
-    for (uint64_t i = 0; i <= DE_BAD_CONTENT; i++) {
-        for (uint64_t j = i + 1; j <= DE_BAD_CONTENT + 1; j++) {
+    for (uint64_t i = 0; i <= DE_SHORT_HISTORY; i++) {
+        for (uint64_t j = i + 1; j <= DE_SHORT_HISTORY + 1; j++) {
             EXPECT(strcmp(de_refusal_text(i), de_refusal_text(j)) != 0);
         }
     }
-    EXPECT(strcmp(de_refusal_text(DE_BAD_CONTENT + 1), de_refusal_text(UINT64_MAX)) == 0);
+    EXPECT(strcmp(de_refusal_text(DE_SHORT_HISTORY + 1), de_refusal_text(UINT64_MAX)) == 0);
 }
 
 static void defaults(void) {

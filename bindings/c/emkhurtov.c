@@ -11,6 +11,7 @@ _Static_assert(offsetof(DeState, parents) == 37208 && offsetof(DeState, n_trials
 _Static_assert(offsetof(DeState, idle) == 67700 && sizeof(DeState) == 67704, "layout");
 _Static_assert(sizeof(DeCall) == 88 && sizeof(DeAnswer) == 48 && sizeof(DeLook) == 1328, "layout");
 _Static_assert(sizeof(DeSetting) == 32 && sizeof(DeInternal) == 24 && sizeof(DeFile) == 24, "layout");
+_Static_assert(sizeof(DeRead) == 32, "layout");
 
 const char *de_version(void) {
     return DE_VERSION;
@@ -32,6 +33,8 @@ const char *de_refusal_text(uint64_t refusal) {
         [DE_ENTRY_NAN] = "a new candidate would have an entry that is NaN",
         [DE_BAD_FILE] = "the file is empty, cut off or its chain is broken, or the lent memory is too short for it",
         [DE_BAD_CONTENT] = "what the file holds, or the state that is to be saved, is none that a sampler can have",
+        [DE_MALFORMED_LINE] = "a line of the metrics export is malformed",
+        [DE_SHORT_HISTORY] = "the lent history has fewer places than the metrics export has entries",
     };
     return refusal < sizeof texts / sizeof *texts ? texts[refusal] : "no refusal has this number";
 }
@@ -90,6 +93,10 @@ static int marked_file(const DeFile *f) {
     return f->kind == 1 && f->refusal == 2 && f->length == 3;
 }
 
+static int marked_read(const DeRead *r) {
+    return r->kind == 1 && r->refusal == 2 && r->count == 3 && r->line == 4;
+}
+
 int de_layout_agrees(void) {
     DeMarks m = de_marks();
     return marked_setup(&m.setup) && m.after_setup == 1 && marked_distribution(&m.distribution) &&
@@ -97,7 +104,8 @@ int de_layout_agrees(void) {
            m.after_call == 3 && marked_answer(&m.answer) && m.after_answer == 4 && marked_look(&m.look) &&
            m.after_look == 5 && marked_setting(&m.setting) && m.after_setting == 6 && marked_internal(&m.internal) &&
            m.after_internal == 7 && m.trial.number == 1 && m.trial.value == 2.0 && m.after_trial == 8 &&
-           marked_state(&m.state) && m.after_state == 9 && marked_file(&m.file) && m.after_file == 10;
+           marked_state(&m.state) && m.after_state == 9 && marked_file(&m.file) && m.after_file == 10 &&
+           marked_read(&m.read) && m.after_read == 11;
 }
 
 /* 0 where the memory can hold a state, else the kind of answer that says why not. */
@@ -149,16 +157,16 @@ DeAnswer de_checked_slot_setting(const void *memory, size_t size, uint64_t slot,
     return answer.kind != 0 ? answer : de_slot_setting(memory, slot, dimension);
 }
 
-/* Whether the state's memory and a lent file have a byte in common. */
-static int overlap(const void *memory, const void *file, size_t length) {
-    uintptr_t state = (uintptr_t)memory, bytes = (uintptr_t)file;
-    return bytes < state ? state - bytes < length : length != 0 && bytes - state < sizeof(DeState);
+/* Whether two pieces of memory have a byte in common. */
+static int overlap(const void *one, size_t size, const void *other, size_t length) {
+    uintptr_t a = (uintptr_t)one, b = (uintptr_t)other;
+    return size != 0 && length != 0 && (b < a ? a - b < length : b - a < size);
 }
 
 /* 0 where the memory can hold a state and the file stands beside it, else the kind of answer that says why not. */
 static uint64_t unfit_with(const void *memory, size_t size, const void *file, size_t length) {
     uint64_t kind = file == NULL && length != 0 ? DE_NULL_POINTER : unfit(memory, size);
-    return kind == 0 && overlap(memory, file, length) ? DE_OVERLAPPING : kind;
+    return kind == 0 && overlap(memory, sizeof(DeState), file, length) ? DE_OVERLAPPING : kind;
 }
 
 DeFile de_checked_save(const void *memory, size_t size, void *file, size_t room) {
@@ -176,4 +184,25 @@ DeFile de_checked_restore(void *memory, size_t size, const void *file, size_t le
         answer.kind = DE_LAYOUT;
     }
     return answer.kind != 0 ? answer : de_restore(memory, file == NULL ? &none : file, length);
+}
+
+DeRead de_checked_read_history(const void *text, size_t length, DeCompletedTrial *history, size_t places) {
+    static const uint8_t no_text;
+    DeCompletedTrial no_place = {0};
+    /* No memory has more bytes than SIZE_MAX, whatever the count of places says. */
+    size_t size = places <= SIZE_MAX / sizeof *history ? places * sizeof *history : SIZE_MAX;
+    DeRead answer = {0};
+    if ((text == NULL && length != 0) || (history == NULL && places != 0)) {
+        answer.kind = DE_NULL_POINTER;
+    } else if ((uintptr_t)history % _Alignof(DeCompletedTrial) != 0) {
+        answer.kind = DE_MISALIGNED;
+    } else if (overlap(text, length, history, size)) {
+        answer.kind = DE_OVERLAPPING;
+    } else if (!de_layout_agrees()) {
+        answer.kind = DE_LAYOUT;
+    }
+    if (answer.kind != 0) {
+        return answer;
+    }
+    return de_read_history(text == NULL ? &no_text : text, length, history == NULL ? &no_place : history, places);
 }

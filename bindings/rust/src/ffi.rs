@@ -24,8 +24,12 @@ pub const INTERNAL_VALUE: u64 = 1;
 pub const SAVED: u64 = 1;
 pub const RESTORED: u64 = 2;
 
+pub const READ: u64 = 1;
+
 pub const BAD_FILE: u64 = 12;
 pub const BAD_CONTENT: u64 = 13;
+pub const MALFORMED_LINE: u64 = 14;
+pub const SHORT_HISTORY: u64 = 15;
 
 #[repr(C)]
 #[derive(Clone, Copy)]
@@ -149,6 +153,15 @@ pub struct DeFile {
     pub length: u64,
 }
 
+#[repr(C)]
+#[derive(Clone, Copy)]
+pub struct DeRead {
+    pub kind: u64,
+    pub refusal: u64,
+    pub count: u64,
+    pub line: u64,
+}
+
 /// One of each struct, its fields numbered (layout.rs).
 #[repr(C)]
 pub struct DeMarks {
@@ -172,6 +185,8 @@ pub struct DeMarks {
     pub after_state: u64,
     pub file: DeFile,
     pub after_file: u64,
+    pub read: DeRead,
+    pub after_read: u64,
 }
 
 unsafe extern "C" {
@@ -182,6 +197,7 @@ unsafe extern "C" {
     pub fn de_slot_setting(state: *const DeState, slot: u64, dimension: u64) -> DeAnswer;
     pub fn de_save(state: *const DeState, file: *mut u8, room: usize) -> DeFile;
     pub fn de_restore(state: *mut DeState, file: *const u8, length: usize) -> DeFile;
+    pub fn de_read_history(text: *const u8, length: usize, history: *mut CompletedTrial, places: usize) -> DeRead;
     pub safe fn de_to_internal(distribution: DeDistribution, setting: DeSetting) -> DeInternal;
     pub safe fn de_draw_ceiling(n: u64, n_dims: u64, strategy: u64) -> u64;
     pub safe fn de_marks() -> DeMarks;

@@ -16,6 +16,7 @@ const _: () = {
     assert!(offset_of!(DeState, idle) == 67700 && size_of::<DeState>() == 67704);
     assert!(size_of::<DeCall>() == 88 && size_of::<DeAnswer>() == 48 && size_of::<DeLook>() == 1328);
     assert!(size_of::<DeSetting>() == 32 && size_of::<DeInternal>() == 24 && size_of::<DeFile>() == 24);
+    assert!(size_of::<DeRead>() == 32);
 };
 
 /// Panics where the layouts differ. The comparison is made once.
@@ -137,6 +138,12 @@ impl Marked for DeFile {
     }
 }
 
+impl Marked for DeRead {
+    fn marked(&self) -> bool {
+        [self.kind, self.refusal, self.count, self.line] == [1, 2, 3, 4]
+    }
+}
+
 impl Marked for DeMarks {
     fn marked(&self) -> bool {
         (self.setup.marked() && self.after_setup == 1)
@@ -149,6 +156,7 @@ impl Marked for DeMarks {
             && (self.trial.marked() && self.after_trial == 8)
             && (self.state.marked() && self.after_state == 9)
             && (self.file.marked() && self.after_file == 10)
+            && (self.read.marked() && self.after_read == 11)
     }
 }
 
@@ -168,6 +176,9 @@ mod tests {
         assert!(!marks.marked());
         let mut marks = de_marks();
         marks.file.length += 1;
+        assert!(!marks.marked());
+        let mut marks = de_marks();
+        std::mem::swap(&mut marks.read.count, &mut marks.read.line);
         assert!(!marks.marked());
         let mut marks = de_marks();
         std::mem::swap(&mut marks.distribution.low, &mut marks.distribution.high);

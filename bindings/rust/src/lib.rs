@@ -23,12 +23,14 @@
 //! ```
 //!
 //! A sampler can be saved after each trial ([`Sampler::save`]) and restored after a restart ([`Sampler::restore`]);
-//! examples/restart.rs does so.
+//! examples/restart.rs does so. A history can be read from a metrics export ([`CompletedTrial::read_export`]).
 
 #![deny(missing_docs)]
 
 mod builder;
 mod ceiling;
+mod export;
+mod fault;
 mod ffi;
 mod layout;
 mod refusal;
@@ -38,6 +40,8 @@ mod types;
 
 pub use builder::SamplerBuilder;
 pub use ceiling::{MAX_DRAWS, draw_ceiling};
+pub use export::ExportError;
+pub use fault::ExportFault;
 pub use refusal::Refusal;
 pub use sampler::{Look, Sampled, Sampler, to_internal, version};
 pub use saved::{FileRefusal, MAX_FILE};
