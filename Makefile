@@ -1,5 +1,5 @@
 # `make run` shows a campaign by the library that ships; `make test` is the gate. All that is built goes into target/.
-.PHONY: run test check fmt lib ship shipped install replay compare compare-short callers bench
+.PHONY: run test check fmt lib ship shipped install replay tells compare compare-short callers bench
 .DELETE_ON_ERROR:
 MAKEFLAGS += --no-print-directory
 export CC
@@ -76,12 +76,16 @@ install:
 replay:
 	rt check replay
 
+# The program that writes a metrics export as `tell` lines: target/bin/tells.
+tells:
+	rt check tells
+
 # Five million calls through the Rust and through `replay`, every answer and state compared (docs/ORACLE.md).
 compare: replay
 	oracle/run full
 
-# The gate's part of it. Where the Rust is not beside the repository there is nothing to compare with (status 3), and it says so.
-compare-short: replay
+# The gate's part of it, and metrics exports. Where the Rust is not beside the repository there is nothing to compare with (status 3), and it says so.
+compare-short: replay tells
 	oracle/run gate || [ $$? -eq 3 ]
 
 # The C and Rust tests and examples, with the library that ships.
