@@ -1,5 +1,5 @@
--- What an answer says of its count.
-use Prim.Native.Nat.{ℕ, _≤_}
+-- What is counted has places: the entries that were read, in the lent slices, and the bytes, in the text.
+use Prim.Native.Nat.{ℕ, _≤_, _<_}
 use mathlib.Core.Path.{_≡_, refl}
 use mathlib.Core.Bool.{Bool, true, false}
 use native.Mathlib.Omega.{arith}
@@ -26,4 +26,4 @@ places-do (well ts) r places n p q = go (leb (length ts) places) refl
 
 -- the input's bytes have places
 pub bytes-do : (places n : ℕ) (r : Input) → r ≡ Whole n → Within places r → n ≤ places
-bytes-do places n r e h = rw e at h
+bytes-do places n r e h = let less : n < places = rw e at h in omega arith

@@ -1,9 +1,8 @@
 -- A block after texts were put into it one behind the other: what stands before the next place is what stood there, and then the text.
 use Prim.Native.Nat.{ℕ, _+_, _≤_}
-use mathlib.Core.Path.{_≡_, refl, ap, sym, _∙_}
-use mathlib.Core.List.{List, [], _∷_, _++_, append-assoc}
-use native.Mathlib.Omega.{arith}
-use lib.ListN.{length, take, drop}
+use mathlib.Core.Path.{_≡_, ap, sym, _∙_}
+use mathlib.Core.List.{List, _++_, append-assoc}
+use lib.ListN.{length, take}
 use lib.Seq.{length-take-le, take-length, take-append-seam, take-append-add}
 
 -- the part of the block from `at` on became the text, with more behind it

@@ -4,3 +4,4 @@ pub mod Blocks
 pub mod Joined
 pub mod Spaced
 pub mod ToldBack
+pub mod Longest

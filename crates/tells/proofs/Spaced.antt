@@ -1,14 +1,14 @@
 -- Words that have no space in them, cut apart again: a digit is no space, and the words of a line are cut at its spaces alone.
 use Prim.Native.Nat.{ℕ, zero, suc, _+_, _/_, _%_}
 use Prim.Native.Char.{code}
-use mathlib.Core.Path.{_≡_, refl, ap, _∙_}
+use mathlib.Core.Path.{_≡_, refl}
 use mathlib.Core.Bool.{Bool, true, false, cond}
 use mathlib.Core.List.{List, [], _∷_, _++_}
 use native.Mathlib.Omega.{arith}
 use lib.Dec.{ltb, eqb}
 use borrow.Author.Tests.{ne-eqb}
 use Rattle.io.specs.Digits.{digits, glyph}
-use Rattle.script.specs.Words.{onto, wordsOf}
+use Rattle.script.specs.Words.{wordsOf}
 
 -- no byte of it is a space
 abbrev pub Spaceless : List ℕ → Type 0

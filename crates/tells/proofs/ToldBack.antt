@@ -2,7 +2,7 @@
 -- words, and each word is read back as the number that it was written of (numbers' RoundTrip).
 use Prim.Native.Nat.{ℕ, zero, suc, _+_, _^_, _≤_, _<_}
 use Prim.Native.Char.{code}
-use mathlib.Core.Path.{_≡_, refl, ap, sym, _∙_}
+use mathlib.Core.Path.{_≡_, refl, ap, _∙_}
 use mathlib.Core.Bool.{Bool, true, false, cond}
 use mathlib.Core.List.{List, [], _∷_, _++_}
 use native.Mathlib.Omega.{arith}
@@ -15,7 +15,7 @@ use Rattle.numbers.specs.declared.DoubleWord.the-variants as Double
 use Rattle.numbers.proofs.RoundTrip.{decimal-read-back, double-read-back}
 use Rattle.metrics.specs.declared.ExportRefusal.{ExportRefusal}
 use Rattle.metrics.specs.declared.ExportRefusal.the-variants.{MalformedLine, ShortHistory}
-use Rattle.script.specs.Words.{bytes, wordsOf, sameBytes}
+use Rattle.script.specs.Words.{wordsOf, sameBytes}
 use Rattle.script.specs.Commands.{commandOf, lineOf, pairLine, tellLine, fileLine}
 use Rattle.script.specs.declared.command.Command.the-variants.{Malformed, Tell}
 use Rattle.tells.specs.Text.{placesFrom, wholeText, patternText, tellRow, refusedRow}

@@ -1,10 +1,12 @@
 // Turns a metrics export (document 02, W3) into the `tell` lines of a campaign script (docs/SCRIPTS.md), so that
 // `(cat setup calls; tells <export.csv) | replay` runs an export through a campaign. Standard input is the export.
 // Standard output gets a line `tell NUMBER PATTERN` for each entry, in the file's order. A refused export gives one
-// line alone, `refused 14 LINE` or `refused 15`; more than 2,555,904 bytes, which are 65,536 lines of the longest form,
-// give `too long`. `replay` answers each of these with `malformed`, so that no refusal passes unseen in a pipe.
-// Each row is proved (rows.rt). That standard output then receives it is no contract: libc's write promises nothing of
-// what it writes. A read or a write that failed is said on standard error.
+// line alone, `refused 14 LINE` or `refused 15`. More than 2,555,904 bytes, 65,536 lines of the longest form, give
+// `too long`: they are never read well into 65,536 places (proofs/Longest), and which refusal applies is not looked at.
+// A read that fails gives `unread`. `replay` answers each of these with `malformed`, so that none passes unseen in a pipe.
+// What a row holds is proved (rows.rt), and that a script reads it back as its entry (proofs/ToldBack). That standard
+// output then receives it is no contract: libc's write promises nothing of what it writes. A read or a write that
+// failed is also said on standard error. The program needs 3.6 MB of stack.
 ghost use Prim.Native.Nat.{_≤_};
 ghost use lib.ListN.{length};
 use input::Input;
@@ -49,6 +51,12 @@ fn answer(text: &[u8], size: usize, numbers: &mut [u64], values: &mut [f64]) -> 
     }
 }
 
+// An input that cannot be read is a line on standard output too, so that it does not pass for an empty export.
+fn write_unread() -> bool {
+    io::write_all(STDERR_FILENO, b"tells: standard input cannot be read\n");
+    io::write_all(STDOUT_FILENO, b"unread\n")
+}
+
 fn finish(ok: bool) {
     if !ok {
         io::write_all(STDERR_FILENO, b"tells: standard output cannot be written\n");
@@ -60,9 +68,7 @@ fn run(text: &mut [u8; 2555905], numbers: &mut [u64; 65536], values: &mut [f64; 
     match input::read_input(text) {
         Input::Whole(n) => finish(answer(text, n, numbers, values)),
         Input::Full => finish(io::write_all(STDOUT_FILENO, b"too long\n")),
-        Input::Failed => {
-            io::write_all(STDERR_FILENO, b"tells: standard input cannot be read\n");
-        }
+        Input::Failed => finish(write_unread()),
     }
 }
 

@@ -1,4 +1,4 @@
--- `answer` meets its contract: the entries that were counted have places in both slices (`few`). Assumes nothing.
+-- `answer` meets its contract: the entries that were counted have places in both slices (`few`).
 use Prim.Native.Nat.{_≤_, min}
 use mathlib.Core.Path.{sym}
 use native.Mathlib.Omega.{arith}

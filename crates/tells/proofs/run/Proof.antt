@@ -1,4 +1,4 @@
--- `run` meets its contract: the bytes that were read are within the text. Assumes nothing.
+-- `run` meets its contract: the bytes that were read are within the text.
 use Rattle.tells.proofs.Answers.{bytes-do}
 use borrow.Author.Needs.{needs}
 use Rattle.tells.proofs.run.Statement.{statement}
@@ -33,11 +33,11 @@ finish-requires-2 c κs = search needs
 enum-told-2 : tie.Need-enum-told-2
 enum-told-2 c = search needs
 
-slice-aggregate-write-all-2 : tie.Need-slice-aggregate-write-all-2
-slice-aggregate-write-all-2 c = search needs
+write-unread-requires : tie.Need-write-unread-requires
+write-unread-requires c κs = search needs
 
-write-all-requires-2 : tie.Need-write-all-requires-2
-write-all-requires-2 c κs = search needs
+finish-requires-3 : tie.Need-finish-requires-3
+finish-requires-3 c κs = search needs
 
 returns : tie.Need-returns
 returns c = search needs
@@ -61,8 +61,8 @@ run-spec =
     write-all-requires
     finish-requires-2
     enum-told-2
-    slice-aggregate-write-all-2
-    write-all-requires-2
+    write-unread-requires
+    finish-requires-3
     returns
     returns-2
     returns-3)

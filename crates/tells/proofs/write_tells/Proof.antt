@@ -1,8 +1,7 @@
--- `write_tells` ends: each block holds one entry more at least. Assumes nothing.
+-- `write_tells` ends: each block holds one entry more at least.
 use Prim.Native.Nat.{_≤_, _-_}
 use mathlib.Core.Path.{_≡_}
 use borrow.Author.Needs.{needs}
-use native.Mathlib.Omega.{arith}
 use lib.ListN.{length}
 use Rattle.tells.proofs.write_tells.Statement.{statement}
 use Rattle.tells.proofs.write_tells.Tie as tie

@@ -1,4 +1,4 @@
--- `read_input` ends: each turn leaves fewer places. Assumes nothing.
+-- `read_input` ends: each turn leaves fewer places.
 use Prim.Native.Nat.{_≤_, _-_}
 use mathlib.Core.Path.{_≡_}
 use borrow.Author.Needs.{needs}
@@ -50,7 +50,7 @@ same-length-2 : tie.Need-same-length-2 Inv-loop μ-loop
 same-length-2 c = search needs
 
 returns-2 : tie.Need-returns-2 Inv-loop μ-loop
-returns-2 c = search needs
+returns-2 c = omega arith
 
 add-at : tie.Need-add-at Inv-loop μ-loop
 add-at c = search needs

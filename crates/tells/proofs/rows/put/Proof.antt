@@ -1,4 +1,4 @@
--- `put` meets its contract, by `put-text`. Assumes nothing.
+-- `put` meets its contract, by `put-text`.
 use mathlib.Core.Path.{refl}
 use native.Mathlib.Omega.{arith}
 use Rattle.tells.proofs.Blocks.{put-text}

@@ -1,4 +1,4 @@
--- `put_double` meets its contract: 16 digits do for a bit pattern. Assumes nothing.
+-- `put_double` meets its contract: 16 digits do for a bit pattern.
 use Prim.Native.Nat.{ℕ}
 use mathlib.Core.Path.{ap, _∙_}
 use mathlib.Core.List.{List, _++_}

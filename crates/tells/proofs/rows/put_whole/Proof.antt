@@ -1,4 +1,4 @@
--- `put_whole` meets its contract: 20 digits do for a number of 64 bits. Assumes nothing.
+-- `put_whole` meets its contract: 20 digits do for a number of 64 bits.
 use Prim.Native.Nat.{ℕ}
 use mathlib.Core.Path.{ap, _∙_}
 use mathlib.Core.List.{List, _++_}

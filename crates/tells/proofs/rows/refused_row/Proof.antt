@@ -1,4 +1,4 @@
--- `refused_row` meets its contract. Assumes nothing.
+-- `refused_row` meets its contract.
 use native.Mathlib.Omega.{arith}
 use Rattle.tells.proofs.Joined.{refused-14, refused-15}
 use Rattle.io.proofs.Counting.{counts}

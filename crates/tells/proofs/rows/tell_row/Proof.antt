@@ -1,4 +1,4 @@
--- `tell_row` meets its contract, by `tell-is`. Assumes nothing.
+-- `tell_row` meets its contract, by `tell-is`.
 use native.Mathlib.Omega.{arith}
 use lib.ListN.{take}
 use Rattle.tells.proofs.Joined.{tell-is}
