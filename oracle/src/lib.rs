@@ -59,6 +59,7 @@ pub mod counted;
 pub mod counts;
 mod draws;
 pub mod driver;
+pub mod export;
 pub mod fixed;
 pub mod generate;
 pub mod judge;

@@ -1,4 +1,4 @@
-//! Makes a script that shows a difference smaller.
+//! Makes a script, or an export, that shows a difference smaller.
 
 use std::time::{Duration, Instant};
 
@@ -9,30 +9,39 @@ use crate::driver::Driver;
 const MOST_RUNS: usize = 2_000;
 const MOST_TIME: Duration = Duration::from_secs(20);
 
-/// Leaves out runs of lines, long ones first, while the oracle and the program still differ.
+/// A script with lines left out, while the oracle and the program still differ.
 pub fn smaller(program: &str, script: &[u8]) -> Vec<u8> {
+    fewer(lines(script), |rest| differs(program, rest))
+}
+
+/// The lines of a text, each with its line feed.
+pub fn lines(text: &[u8]) -> Vec<&[u8]> {
+    text.split_inclusive(|&b| b == b'\n').collect()
+}
+
+/// Leaves out runs of pieces, long ones first, while what is left still differs.
+pub fn fewer(mut pieces: Vec<&[u8]>, differs: impl Fn(&[u8]) -> bool) -> Vec<u8> {
     let began = Instant::now();
-    let mut lines: Vec<&[u8]> = script.split_inclusive(|&b| b == b'\n').collect();
-    let mut length = lines.len() / 2;
+    let mut length = pieces.len() / 2;
     let mut runs = 0;
     while length > 0 {
         let mut at = 0;
-        while at < lines.len() {
+        while at < pieces.len() {
             if runs == MOST_RUNS || began.elapsed() > MOST_TIME {
-                return lines.concat();
+                return pieces.concat();
             }
             runs += 1;
-            let end = (at + length).min(lines.len());
-            let rest = [&lines[..at], &lines[end..]].concat();
-            if differs(program, &rest.concat()) {
-                lines = rest;
+            let end = (at + length).min(pieces.len());
+            let rest = [&pieces[..at], &pieces[end..]].concat();
+            if differs(&rest.concat()) {
+                pieces = rest;
             } else {
                 at = end;
             }
         }
         length /= 2;
     }
-    lines.concat()
+    pieces.concat()
 }
 
 /// Both run to the script's end, and not alike; a script that is malformed for both shows nothing new.
