@@ -1,7 +1,7 @@
 -- An export that is read has as many entries as line feeds, so a caller that counts these knows the places. Idea: each line feed ends one piece.
 use Prim.Native.Nat.{ℕ, suc, _+_}
 use Prim.Native.Char.{code}
-use mathlib.Core.Path.{_≡_, refl, sym, ap, _∙_}
+use mathlib.Core.Path.{_≡_, refl, ap, _∙_}
 use mathlib.Core.Bool.{Bool, true, false, cond}
 use mathlib.Core.List.{List, [], _∷_}
 use native.Mathlib.Omega.{arith}

@@ -1,5 +1,5 @@
 -- Worked examples of document 02's W3, each by computing.
-use Prim.Native.Nat.{ℕ, zero, suc, _-_, _^_}
+use Prim.Native.Nat.{ℕ, zero, _-_, _^_}
 use Prim.Native.Char.{code}
 use Prim.Native.String.{String, [] as []ˢ, _∷_ as _∷ˢ_}
 use mathlib.Core.Path.{_≡_, refl}
@@ -16,7 +16,6 @@ use Rattle.metrics.specs.Pieces.{cutAt, splitAt}
 use Rattle.metrics.specs.Value.{decimalOf, unsignedOf, valueWord}
 use Rattle.metrics.specs.Line.{trialNumber, lineOf}
 use Rattle.metrics.specs.Export.{Export, well, malformed, linesFrom, exportOf, answerOf, leftIn, entryOf}
-use Rattle.metrics.specs.declared.ReadAnswer.{ReadAnswer}
 use Rattle.metrics.specs.declared.ReadAnswer.the-variants.{Count, Refused}
 use Rattle.metrics.specs.declared.ExportRefusal.the-variants.{MalformedLine, ShortHistory}
 

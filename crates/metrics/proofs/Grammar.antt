@@ -1,16 +1,14 @@
 -- THE GRAMMAR: the reader takes exactly the texts that are lines of the grammar, with what they mean, and names the line at which any other text leaves it.
 -- Idea: a line of the grammar has no line feed within it, so the text is cut where its lines meet; by the lines of the grammar, and back by the pieces.
-use Prim.Native.Nat.{ℕ, suc, _+_, _≤_, _<_}
-use Prim.Native.Char.{code}
+use Prim.Native.Nat.{ℕ, suc, _+_}
 use mathlib.Core.Path.{_≡_, refl, sym, ap, _∙_, subst}
 use mathlib.Core.Bool.{Bool, true, false, cond}
 use mathlib.Core.List.{List, [], _∷_, _++_, map, append-nil, append-assoc}
 use mathlib.Core.Logic.{_↔_}
 use native.Mathlib.Omega.{arith}
-use native.Mathlib.Numerals.{add-one}
 use lib.Dec.{eqb}
 use lib.ListN.{length}
-use borrow.Author.Tests.{ne-eqb, eqb-true, eqb-false}
+use borrow.Author.Tests.{eqb-true}
 use Rattle.history.specs.declared.CompletedTrial.{CompletedTrial}
 use Rattle.metrics.specs.Pieces.{cutAt}
 use Rattle.metrics.specs.Line.{lineOf}

@@ -1,11 +1,11 @@
 -- A text that was cut at a separator, put together again. Idea: by the text's bytes; `Clear` says that none of them is the separator.
 use Prim.Native.Nat.{ℕ, _≤_, _<_}
-use mathlib.Core.Path.{_≡_, refl, sym, ap, _∙_, subst}
-use mathlib.Core.Bool.{Bool, true, false, _&&_, cond}
+use mathlib.Core.Path.{_≡_, refl, sym, ap, subst}
+use mathlib.Core.Bool.{Bool, true, false, cond}
 use mathlib.Core.List.{List, [], _∷_, _++_}
 use native.Mathlib.Omega.{arith}
 use lib.Dec.{eqb, ltb}
-use borrow.Author.Tests.{eq-eqb, eqb-true, lt-ltb, ltb-true}
+use borrow.Author.Tests.{eq-eqb, eqb-true, ltb-true}
 use Rattle.numbers.specs.Numbers.{digitOf, allDigits}
 use Rattle.metrics.specs.Pieces.{onto, cutAt, Halves, whole, halves, ontoHalves, splitAt}
 use Rattle.metrics.proofs.Decimals.{and-left, and-right}

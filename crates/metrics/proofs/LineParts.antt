@@ -2,7 +2,7 @@
 -- Idea: a separator stands nowhere among digits, so the line is cut where its parts meet (Joined).
 use Prim.Native.Nat.{ℕ, _+_, _^_, _≤_, _<_}
 use Prim.Native.Char.{code}
-use mathlib.Core.Path.{_≡_, refl, sym, ap, _∙_, subst}
+use mathlib.Core.Path.{_≡_, refl, sym, ap, _∙_}
 use mathlib.Core.Bool.{Bool, true, false, _&&_, cond}
 use mathlib.Core.List.{List, [], _∷_, _++_, append-nil}
 use native.Mathlib.Omega.{arith}
@@ -11,7 +11,7 @@ use lib.Ieee.{Float}
 use lib.ListN.{length}
 use borrow.Author.Tests.{le-leb, lt-ltb, leb-true, ltb-true, eqb-true}
 use Rattle.history.specs.declared.CompletedTrial.{CompletedTrial}
-use Rattle.numbers.specs.Numbers.{digitOf, allDigits, speltAfter, numberOf}
+use Rattle.numbers.specs.Numbers.{digitOf, allDigits, speltAfter}
 use Rattle.numbers.specs.declared.WholeWord.{WholeWord}
 use Rattle.numbers.specs.declared.WholeWord.the-variants as Whole
 use Rattle.numbers.specs.declared.DoubleWord.{DoubleWord}
@@ -21,7 +21,6 @@ use Rattle.metrics.specs.Value.{decimalOf, pointed, unsignedOf, valueWor
 use Rattle.metrics.specs.Nearest.{nearestDouble}
 use Rattle.metrics.specs.Line.{trialNumber, trial, fields, lineOf}
 use Rattle.metrics.specs.Grammar.{Parts, Lawful, signOf, pointOf, valueText, bodyText, meant}
-use Rattle.metrics.specs.declared.line.LineRead.{LineRead}
 use Rattle.metrics.specs.declared.line.LineRead.the-variants as Line
 use Rattle.metrics.proofs.Decimals.{and-left, and-right, digits-append}
 use Rattle.metrics.proofs.Joined.{Clear, clear-append, digits-clear, split-clear, whole-clear, SplitBack, split-back}

@@ -3,19 +3,18 @@ use Prim.Native.Nat.{ℕ, suc, _+_, _-_, _≤_, _<_}
 use Prim.Native.Char.{code}
 use mathlib.Core.Path.{_≡_, refl, sym, ap, _∙_, subst}
 use mathlib.Core.Bool.{Bool, true, false, cond}
-use mathlib.Core.List.{List, [], _∷_, _++_}
-use mathlib.Core.Logic.{_⊎_, inl, inr}
+use mathlib.Core.List.{List, [], _∷_}
 use native.Mathlib.Nat.{zero-add}
 use native.Mathlib.Numerals.{add-one}
 use native.Mathlib.Omega.{arith}
 use lib.Dec.{leb, eqb}
-use lib.ListN.{length, drop, take, getD, length-drop, length-take, drop-of-length-le}
-use borrow.Author.Tests.{eq-eqb, ne-eqb, eqb-true, eqb-false, le-leb, lt-leb}
+use lib.ListN.{length, drop, take, length-drop, length-take, drop-of-length-le}
+use borrow.Author.Tests.{ne-eqb, eqb-true, eqb-false, le-leb, lt-leb}
 use Rattle.history.specs.declared.CompletedTrial.{CompletedTrial}
 use Rattle.metrics.specs.Pieces.{cutAt, firstLength}
 use Rattle.metrics.specs.Line.{lineOf}
-use Rattle.metrics.specs.Export.{Export, well, malformed, after, linesFrom, exportOf, answerOf}
-use Rattle.metrics.specs.Steps.{until, nextIn, nextOf, stepIn, stepOf, answerFrom}
+use Rattle.metrics.specs.Export.{Export, well, malformed, after, linesFrom, answerOf}
+use Rattle.metrics.specs.Steps.{until, nextIn, nextOf, answerFrom}
 use Rattle.metrics.specs.declared.line.LineRead.{LineRead}
 use Rattle.metrics.specs.declared.line.LineRead.the-variants as Line
 use Rattle.metrics.specs.declared.line.NextLine.{NextLine}

@@ -2,12 +2,12 @@
 use Prim.Native.Nat.{ℕ, suc, _+_, _≤_, _<_}
 use mathlib.Core.Path.{_≡_, refl, sym, ap, _∙_, subst}
 use mathlib.Core.Bool.{Bool, true, false, cond}
-use mathlib.Core.List.{List, [], _∷_, _++_, map, append-assoc}
+use mathlib.Core.List.{List, [], _∷_, _++_, map}
 use native.Mathlib.Nat.{zero-add}
 use native.Mathlib.Numerals.{add-one}
 use native.Mathlib.Omega.{arith}
 use lib.Dec.{leb, ltb}
-use lib.ListN.{length, drop, take, getD, set, length-map, length-set, drop-of-length-le}
+use lib.ListN.{length, drop, getD, set, length-map, drop-of-length-le}
 use lib.Seq.{drop-cons, sets, sets-eq}
 use borrow.Author.Tests.{leb-true, ltb-true, ltb-false}
 use Rattle.history.specs.declared.CompletedTrial.{CompletedTrial}
@@ -19,7 +19,7 @@ use Rattle.metrics.specs.declared.line.NextLine.{NextLine}
 use Rattle.metrics.specs.declared.line.NextLine.the-variants as Next
 use Rattle.metrics.specs.declared.ReadAnswer.{ReadAnswer}
 use Rattle.metrics.specs.declared.ReadAnswer.the-variants.{Count, Refused}
-use Rattle.metrics.specs.declared.ExportRefusal.the-variants.{MalformedLine, ShortHistory}
+use Rattle.metrics.specs.declared.ExportRefusal.the-variants.{ShortHistory}
 use Rattle.metrics.specs.declared.Step.{Step}
 use Rattle.metrics.proofs.Lines.{left, lines-done, Told, told}
 

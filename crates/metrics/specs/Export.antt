@@ -53,6 +53,7 @@ unfoldable pub leftIn : {A : Type 0} → (CompletedTrial → A) → ℕ → Expo
 leftIn give places (well ts) lent = cond (leb (length ts) places) (map give ts ++ drop (length ts) lent) lent
 leftIn give places (malformed k) lent = lent
 
+-- an entry kept whole, as its number, as its value
 abbrev pub entryOf : CompletedTrial → CompletedTrial
 entryOf t = t
 

@@ -1,5 +1,5 @@
--- The export a line at a time, as the code goes through it.
-use Prim.Native.Nat.{ℕ, suc, _+_}
+-- The export a line at a time, as the code goes through it: what its inner functions equal. No public contract cites this.
+use Prim.Native.Nat.{ℕ, _+_}
 use Prim.Native.Char.{code}
 use mathlib.Core.List.{List, [], _∷_}
 use lib.IntN.{pos}
@@ -20,6 +20,7 @@ use Rattle.metrics.specs.declared.ReadAnswer.the-variants.{Count, Refuse
 use Rattle.metrics.specs.declared.ExportRefusal.the-variants.{MalformedLine, ShortHistory}
 use Rattle.metrics.specs.declared.Step.{Step}
 
+-- a line as it was read, and where the next one starts
 abbrev pub until : ℕ → LineRead → NextLine
 until next (Line.Entry t) = Next.Entry t next
 until next Line.Malformed = Next.Malformed
@@ -33,6 +34,7 @@ nextIn at (line ∷ next ∷ more) = until (at + length line + 1) (lineOf line)
 unfoldable pub nextOf : List ℕ → ℕ → NextLine
 nextOf text at = nextIn at (cutAt (code "\n") (drop at text))
 
+-- any entry, and the same place again, where there is no line
 abbrev pub stepIn : ℕ → NextLine → Step
 stepIn at (Next.Entry t next) = record { entry = t; next = next }
 stepIn at Next.Malformed = record { entry = record { number = 0; value = fin false 0 (pos 0) }; next = at }

@@ -1,6 +1,6 @@
 // History from the metrics export (document 02, W3): text lines, each a trial number, a comma, a value and a line feed.
 // Every line is read before anything is written, so that a refusal leaves the lent history as it was.
-ghost use Prim.Native.Nat.{_≤_, min};
+ghost use Prim.Native.Nat.{min};
 ghost use mathlib.Core.Path.{_≡_};
 ghost use lib.ListN.{length};
 ghost use Rattle.metrics.specs.Export.{exportOf, answerOf, leftIn, entryOf, numberOf, valueOf};
@@ -65,7 +65,8 @@ fn to_write(answer: ReadAnswer) -> usize
     }
 }
 
-// The entry of the line that starts at `at`.
+// The entry of the line that starts at `at`. Where there is none any entry will do: only lines that `judge` has read well are
+// asked for.
 fn step_at(text: &[u8], at: usize) -> Step
     ensures { λ r. ⌜ r ≡ stepOf (now (text .entry)) at ⌝ }
 {
@@ -120,7 +121,8 @@ pub fn read_history_slices(text: &[u8], numbers: &mut [u64], values: &mut [f64])
 pub fn read_history(text: &[u8], history: &mut [CompletedTrial]) -> ReadAnswer
     ensures { λ r.
         let places = length (now (history .entry)) in
-        ⌜ (r ≡ answerOf places (exportOf (now (text .entry)))) × (now (history .exit) ≡ leftIn entryOf places (exportOf (now (text .entry))) (now (history .entry))) ⌝ }
+        ⌜ (r ≡ answerOf places (exportOf (now (text .entry))))
+        × (now (history .exit) ≡ leftIn entryOf places (exportOf (now (text .entry))) (now (history .entry))) ⌝ }
 {
     let places = history.len();
     let answer = judge(text, places);

@@ -1,10 +1,10 @@
 -- How long an export can be that is read well: a line of the grammar has 39 bytes at most, 20 digits, a comma, a minus, 15 digits with a point and a
 -- line feed. So more than 65,536 times 39 bytes, which are answered with `too long`, are never read into 65,536 places.
-use Prim.Native.Nat.{ℕ, suc, _+_, _*_, _≤_}
+use Prim.Native.Nat.{ℕ, _+_, _*_, _≤_}
 use Prim.Native.Char.{code}
-use mathlib.Core.Path.{_≡_, refl, ap, _∙_}
+use mathlib.Core.Path.{_≡_, ap, _∙_}
 use mathlib.Core.Bool.{Bool, true, false}
-use mathlib.Core.List.{List, [], _∷_, _++_, map}
+use mathlib.Core.List.{List, [], _∷_, _++_}
 use native.Mathlib.Omega.{arith}
 use lib.ListN.{length, length-append, length-map}
 use Rattle.history.specs.declared.CompletedTrial.{CompletedTrial}
