@@ -53,6 +53,11 @@ module _ (sep : ℕ) where
   cut-clear [] t c = rw self
   cut-clear (b ∷ s) t c = rw (c .0, cut-clear s t (c .1))
 
+  pub cut-alone : (s : List ℕ) → Clear sep s → cutAt sep s ≡ s ∷ []
+  unfolding cutAt
+  cut-alone [] c = refl
+  cut-alone (b ∷ s) c = rw (c .0, cut-alone s (c .1))
+
   -- ---- cut, then together
   abbrev pub SplitBack : Halves → List ℕ → Type 0
   SplitBack (whole w) s = s ≡ w

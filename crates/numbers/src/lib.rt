@@ -1,4 +1,4 @@
-// Numbers as a campaign script writes them. Each reader takes any bytes, and says so where they are no such number.
+// Numbers as campaign scripts and metrics exports write them. Each reader takes any bytes, and says so where they are no such number.
 ghost use Prim.Native.Nat.{_<_};
 ghost use mathlib.Core.Path.{_≡_};
 ghost use lib.Ieee.{toBits, binary64};
