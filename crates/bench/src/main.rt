@@ -3,6 +3,7 @@ mod campaign;
 mod clock;
 mod closings;
 mod measure;
+mod rounds;
 mod scan;
 mod show;
 mod work;
