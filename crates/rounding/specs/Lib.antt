@@ -1,3 +1,5 @@
 pub mod Clamp
 pub mod Floor
+pub mod Powers
 pub mod Round
+pub mod Table

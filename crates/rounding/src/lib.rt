@@ -11,10 +11,10 @@ ghost use Rattle.rounding.specs.Floor.{floorOf};
 ghost use Rattle.rounding.specs.Clamp.{clampOf};
 
 // 2^63: the weight of the sign in the pattern.
-const SIGN: u64 = 0x8000_0000_0000_0000;
+const SIGN: u64 = powers::POW2[63];
 
 // 2^52: the weight of the exponent in the pattern, and of the leading digit, which the pattern leaves out.
-const LEADING: u64 = 0x10_0000_0000_0000;
+const LEADING: u64 = powers::POW2[52];
 
 // `round`: to the nearest whole number, halves away from zero. From 2^52 on every double is whole.
 pub fn round(x: f64) -> f64
@@ -93,5 +93,6 @@ fn half_up(q: u64, k: usize) -> u64
     requires { ⌜ (1 ≤ k) × (k ≤ 53) ⌝ }
     ensures { λ r. ⌜ r ≡ nearestWhole q (2 ^ k) ⌝ }
 {
-    (q + powers::pow2(k - 1)) / powers::pow2(k)
+    let table = powers::table();
+    (q + table[k - 1]) / table[k]
 }

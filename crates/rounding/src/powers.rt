@@ -1,9 +1,11 @@
-// The powers of two that rounding works with.
+// The powers of two that rounding works with: every one from 2^0 to 2^63 is read off this table (document 02, W4).
 ghost use mathlib.Core.Path.{_≡_};
 ghost use Prim.Native.Nat.{_^_, _<_};
+ghost use lib.Dec.{T};
+ghost use Rattle.rounding.specs.Powers.{powersOfTwo};
 
 // 2^0 to 2^63.
-const POW2: [u64; 64] = [
+pub const POW2: [u64; 64] = [
     1,
     2,
     4,
@@ -70,10 +72,19 @@ const POW2: [u64; 64] = [
     9223372036854775808,
 ];
 
+// The table as a whole: entry k is 2^k. Who needs two entries takes them off one `table()`, since a constant is laid down anew wherever it
+// is read.
+pub fn table() -> [u64; 64]
+    ensures { λ r. ⌜ T (powersOfTwo r) ⌝ }
+{
+    POW2
+}
+
 // 2^k.
 pub fn pow2(k: usize) -> u64
     requires { ⌜ k < 64 ⌝ }
     ensures { λ r. ⌜ r ≡ 2 ^ k ⌝ }
 {
-    POW2[k]
+    let powers = table();
+    powers[k]
 }
