@@ -21,10 +21,10 @@
 extern "C" {
 #endif
 
-#define DE_VERSION "0.5.0"
+#define DE_VERSION "0.5.1"
 #define DE_VERSION_MAJOR 0
 #define DE_VERSION_MINOR 5
-#define DE_VERSION_PATCH 0
+#define DE_VERSION_PATCH 1
 
 /* The version of the library that is linked: DE_VERSION, where it is this header's. */
 const char *de_version(void);
