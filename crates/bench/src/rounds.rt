@@ -9,7 +9,7 @@ pub struct Rounded {
     pub sum: f64,
 }
 
-// A thousand doubles from -1000 to 1000, drawn: such as a value's distance from low, in steps.
+// A thousand doubles from -1000 to 1000, drawn: such as decoding rounds.
 fn doubles(seed: u64) -> [f64; 1000] {
     let mut xs = [0.0f64; 1000];
     let mut w = seed;
