@@ -3,7 +3,7 @@ mod campaign;
 mod clock;
 mod closings;
 mod measure;
-mod rounds;
+mod rounded;
 mod scan;
 mod show;
 mod work;

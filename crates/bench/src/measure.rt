@@ -1,7 +1,7 @@
 // The figures: at N = 160 with 16 dimensions, at N = 20 with 2, of a long history, and of rounding by itself.
 use crate::campaign::open;
 use crate::closings::best_closing;
-use crate::rounds::best_rounded;
+use crate::rounded::best_pass;
 use crate::scan::scan;
 use crate::show::expect;
 use crate::show::hundredfold;
@@ -56,10 +56,10 @@ fn long_history(state: State) {
     ratio(b"scan-ns", hundredfold(t.ns, 100000), 100);
 }
 
-fn rounds(seed: u64) {
-    let r = best_rounded(seed);
-    expect(r.sum == rounding::round(r.sum));
-    time(b"round", hundredfold(r.ns, 1000));
+fn rounding_alone(seed: u64) {
+    let p = best_pass(seed);
+    expect(p.sum == rounding::round(p.sum));
+    time(b"round", hundredfold(p.ns, 1000));
 }
 
 // The seed is how many arguments there are: 2, which the compiler does not know.
@@ -69,5 +69,5 @@ pub fn measure() {
     large(figures_of(state, 160));
     small(figures_of(open(seed, 2, 22), 20));
     long_history(state);
-    rounds(seed);
+    rounding_alone(seed);
 }

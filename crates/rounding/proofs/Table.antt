@@ -1,4 +1,4 @@
--- A rule of a table, proved at all of its entries by one test that antt computes, one entry after the other.
+-- What a table's test says at each place: the rule holds of the entry there.
 use mathlib.Core.Path.{_∙_, subst, sym}
 use mathlib.Core.Bool.{Bool}
 use mathlib.Core.List.{List, [], _∷_}

@@ -1,4 +1,4 @@
--- "Every power of two from 2^0 to 2^63 it works with .. from a constant table of these 64" (document 02, W4).
+-- "A constant table of these 64" (document 02, W4): the powers of two from 2^0 to 2^63.
 use Prim.Native.Nat.{ℕ, _^_}
 use mathlib.Core.Bool.{Bool, _&&_}
 use mathlib.Core.List.{List}

@@ -93,6 +93,6 @@ fn half_up(q: u64, k: usize) -> u64
     requires { ⌜ (1 ≤ k) × (k ≤ 53) ⌝ }
     ensures { λ r. ⌜ r ≡ nearestWhole q (2 ^ k) ⌝ }
 {
-    let table = powers::table();
-    (q + table[k - 1]) / table[k]
+    let powers = powers::table();
+    (q + powers[k - 1]) / powers[k]
 }

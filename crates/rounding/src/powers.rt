@@ -1,4 +1,4 @@
-// The powers of two that rounding works with: every one from 2^0 to 2^63 is read off this table (document 02, W4).
+// The powers of two that rounding works with: those from 2^0 to 2^63 come from this table (document 02, W4).
 ghost use mathlib.Core.Path.{_≡_};
 ghost use Prim.Native.Nat.{_^_, _<_};
 ghost use lib.Dec.{T};
@@ -72,8 +72,8 @@ pub const POW2: [u64; 64] = [
     9223372036854775808,
 ];
 
-// The table as a whole: entry k is 2^k. Who needs two entries takes them off one `table()`, since a constant is laid down anew wherever it
-// is read.
+// The table as a whole: entry k is 2^k. It is written to the stack wherever it is read at a place that is not known in advance, so a
+// function that needs two entries reads both off one `table()`.
 pub fn table() -> [u64; 64]
     ensures { λ r. ⌜ T (powersOfTwo r) ⌝ }
 {

@@ -2,14 +2,14 @@
 use Prim.Native.Nat.{_-_}
 use native.Mathlib.Omega.{arith}
 use borrow.Author.Needs.{needs}
-use Rattle.bench.proofs.rounds.sum_rounded.Statement.{statement}
-use Rattle.bench.proofs.rounds.sum_rounded.Tie as tie
+use Rattle.bench.proofs.rounded.sum_rounded.Statement.{statement}
+use Rattle.bench.proofs.rounded.sum_rounded.Tie as tie
 
 abbrev Inv-loop : tie.InvT-loop
-Inv-loop xs sum₀ i₀ sum i = Unit {0}
+Inv-loop from xs sum₀ i₀ sum i = Unit {0}
 
 abbrev μ-loop : tie.MeasureT-loop
-μ-loop xs sum₀ i₀ sum i = 1000 - i
+μ-loop from xs sum₀ i₀ sum i = 1000 - i
 
 loop-holds : tie.Need-loop-holds Inv-loop μ-loop
 loop-holds c = tt

@@ -1,15 +1,15 @@
--- `best_rounded` is safe and ends: the passes that are left get fewer. Assumes nothing.
+-- `best_pass` is safe and ends: the passes that are left get fewer. Assumes nothing.
 use Prim.Native.Nat.{_-_}
 use native.Mathlib.Omega.{arith}
 use borrow.Author.Needs.{needs}
-use Rattle.bench.proofs.rounds.best_rounded.Statement.{statement}
-use Rattle.bench.proofs.rounds.best_rounded.Tie as tie
+use Rattle.bench.proofs.rounded.best_pass.Statement.{statement}
+use Rattle.bench.proofs.rounded.best_pass.Tie as tie
 
 abbrev Inv-loop : tie.InvT-loop
-Inv-loop seed xs₀ ns₀ sum₀ i₀ xs ns sum i = Unit {0}
+Inv-loop seed xs ns₀ sum₀ i₀ ns sum i = Unit {0}
 
 abbrev μ-loop : tie.MeasureT-loop
-μ-loop seed xs₀ ns₀ sum₀ i₀ xs ns sum i = 1000 - i
+μ-loop seed xs ns₀ sum₀ i₀ ns sum i = 1000 - i
 
 doubles-requires : tie.Need-doubles-requires Inv-loop μ-loop
 doubles-requires c κs = search needs
@@ -19,9 +19,6 @@ loop-holds c = tt
 
 pass-requires : tie.Need-pass-requires Inv-loop μ-loop
 pass-requires c κs = search needs
-
-array-write-xs : tie.Need-array-write-xs Inv-loop μ-loop
-array-write-xs c = search needs
 
 least-requires : tie.Need-least-requires Inv-loop μ-loop
 least-requires c κs = search needs
@@ -38,8 +35,8 @@ loop-again c = tt
 returns : tie.Need-returns Inv-loop μ-loop
 returns c = search needs
 
-pub best-rounded-spec : {M : Type 1} → statement M
-best-rounded-spec =
+pub best-pass-spec : {M : Type 1} → statement M
+best-pass-spec =
     tie.close
     (tie.spec
     Inv-loop
@@ -47,7 +44,6 @@ best-rounded-spec =
     doubles-requires
     loop-holds
     pass-requires
-    array-write-xs
     least-requires
     add-i
     loop-less

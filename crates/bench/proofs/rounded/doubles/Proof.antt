@@ -2,8 +2,8 @@
 use Prim.Native.Nat.{_-_}
 use native.Mathlib.Omega.{arith}
 use borrow.Author.Needs.{needs}
-use Rattle.bench.proofs.rounds.doubles.Statement.{statement}
-use Rattle.bench.proofs.rounds.doubles.Tie as tie
+use Rattle.bench.proofs.rounded.doubles.Statement.{statement}
+use Rattle.bench.proofs.rounded.doubles.Tie as tie
 
 abbrev Inv-loop : tie.InvT-loop
 Inv-loop seed xs₀ w₀ i₀ xs w i = Unit {0}
