@@ -1,12 +1,12 @@
 -- What the parts of a closing make, put together: the calls' results are the definition's, for N parents and N new candidates stand in their arrays' first places.
-use mathlib.Core.Path.{_≡_, sym, ap, _∙_}
+use mathlib.Core.Path.{_≡_, sym, ap, ap₂, _∙_}
 use mathlib.Core.Bool.{Bool, true, false, cond}
 use mathlib.Core.List.{List, [], _∷_}
 use Prim.Native.Nat.{ℕ, _-_, _≤_, _<_, min}
 use native.Mathlib.Omega.{arith}
 use borrow.Author.Tests.{eq-eqb, ne-eqb}
 use lib.Dec.{eqb}
-use lib.Ieee.{Float}
+use lib.Ieee.{Float, lt}
 use lib.ListN.{length, take, replicate, length-map}
 use lib.Seq.{take-at, length-take-le}
 use Rattle.rng_util.specs.Gen.{Made}
@@ -19,15 +19,15 @@ use Rattle.candidates.specs.declared.DrawnCandidates.{DrawnCandidates}
 use Rattle.candidates.specs.declared.Space.{Space}
 use Rattle.evolution.specs.Trial.{nextCandidates}
 use Rattle.evolution.specs.declared.Member.{Member}
-use Rattle.selection.specs.Best.{values, bestSlot}
+use Rattle.selection.specs.Best.{values, bestSlot, leastValue}
 use Rattle.selection.specs.Records.{blankMember, membersRec}
-use Rattle.selection.specs.Select.{selected, anyReplaced, stored}
+use Rattle.selection.specs.Select.{selected, stored}
 use Rattle.selection.proofs.Best.{best-below}
-use Rattle.ledger.specs.Closing.{up}
+use Rattle.ledger.specs.Closing.{up, newIdle}
 use Rattle.kernel.proofs.Fit.{nexts-length}
 use Rattle.state.specs.Blank.{blankTrial}
 use Rattle.state.specs.declared.State.{State}
-use Rattle.closing.specs.Raw.{parentsAfter, idleAfter, settled, startOf, rawParents, rawSlots, rawNexts, rawClose}
+use Rattle.closing.specs.Raw.{parentsAfter, becameSmaller, settled, startOf, rawParents, rawSlots, rawNexts, rawClose}
 use Rattle.closing.specs.declared.Slots.{Slots}
 
 -- ---- how many
@@ -72,12 +72,15 @@ first-members n q xs e l = ap (take n) e ∙ take-at xs (replicate (160 - length
 
 module _ (closed idle n : ℕ) (ps : List Member) (cs : List Candidate) (rs : List Float) (q : List Member) (l : length (parentsAfter closed (take n ps) (take n cs) (take n rs)) ≡ n)
     (e : q ≡ membersRec (parentsAfter closed (take n ps) (take n cs) (take n rs))) where
-  pub slots-are : (x : Bool) (b k i : ℕ) → x ≡ anyReplaced (take n ps) (take n rs) → b ≡ bestSlot (values (take n q)) → k ≡ up closed → i ≡ idleAfter closed idle x
-      → record { parents = q; best = b; closed = k; idle = i } ≡ settled closed idle (take n ps) (take n cs) (take n rs)
+  pub slots-are : (v w : Float) (b k i : ℕ) → v ≡ leastValue (values (take n q)) → w ≡ leastValue (values (take n ps)) → b ≡ bestSlot (values (take n q)) → k ≡ up closed
+      → i ≡ newIdle closed idle (lt v w) → record { parents = q; best = b; closed = k; idle = i } ≡ settled closed idle (take n ps) (take n cs) (take n rs)
   unfolding settled
-  slots-are x b k i r h u d =
-      let best : b ≡ bestSlot (values (parentsAfter closed (take n ps) (take n cs) (take n rs))) = h ∙ ap (λ (l : List Member). bestSlot (values l)) (first-members n q (parentsAfter closed (take n ps) (take n cs) (take n rs)) e l) in
-      let idle : i ≡ idleAfter closed idle (anyReplaced (take n ps) (take n rs)) = d ∙ ap (idleAfter closed idle) r in
+  slots-are v w b k i f g h u d =
+      let news = parentsAfter closed (take n ps) (take n cs) (take n rs) in
+      let first = first-members n q news e l in
+      let best : b ≡ bestSlot (values news) = h ∙ ap (λ (l : List Member). bestSlot (values l)) first in
+      let least : v ≡ leastValue (values news) = f ∙ ap (λ (l : List Member). leastValue (values l)) first in
+      let idle : i ≡ newIdle closed idle (becameSmaller (take n ps) news) = d ∙ ap₂ (λ (y z : Float). newIdle closed idle (lt y z)) least g in
       λ j. record { parents = e j; best = best j; closed = u j; idle = idle j }
 
 -- ---- the closing, from the results of its calls

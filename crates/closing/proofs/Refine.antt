@@ -1,5 +1,5 @@
 -- A closing on a state that is laid out is the ledger's closing, laid out. Field by field: the first N places of each array are the plain state's lists.
-use mathlib.Core.Path.{_≡_, refl, sym, ap, _∙_}
+use mathlib.Core.Path.{_≡_, refl, sym, ap, ap₂, _∙_}
 use mathlib.Core.Logic.{_≢_}
 use mathlib.Core.Bool.{Bool, true, false, cond}
 use mathlib.Core.List.{List, map}
@@ -7,7 +7,7 @@ use mathlib.Core.Option.{Option, none, some}
 use Prim.Native.Nat.{ℕ, zero, suc, _-_, _≤_}
 use native.Mathlib.Omega.{arith}
 use borrow.Author.Tests.{ne-eqb}
-use lib.Ieee.{Float, nan}
+use lib.Ieee.{Float, nan, lt}
 use lib.ListN.{length, take, replicate, length-map}
 use lib.Seq.{take-at, take-append-le, length-take-le}
 use Rattle.rng_util.specs.Gen.{Made}
@@ -19,9 +19,9 @@ use Rattle.candidates.specs.declared.Candidate.{Candidate}
 use Rattle.evolution.specs.Trial.{nextCandidates}
 use Rattle.evolution.specs.declared.Member.{Member}
 use Rattle.evolution.specs.declared.Setup.{Setup}
-use Rattle.selection.specs.Best.{values, bestSlot}
+use Rattle.selection.specs.Best.{values, bestSlot, leastValue}
 use Rattle.selection.specs.Records.{blankMember}
-use Rattle.selection.specs.Select.{selected, anyReplaced, stored}
+use Rattle.selection.specs.Select.{selected, stored}
 use Rattle.ledger.specs.Kernel as K
 use Rattle.ledger.specs.State as Plain
 use Rattle.ledger.specs.Closing as L
@@ -29,11 +29,11 @@ use Rattle.ledger.specs.Soundness.{Running}
 use Rattle.ledger.specs.Words.{_>>=_, All}
 use Rattle.ledger.proofs.Slots.{store-all, select-all}
 use Rattle.kernel.specs.De.{de, codeGen, memberOf, unlessNan, nextsOf}
-use Rattle.kernel.proofs.Link.{link-store, link-select, link-replaced, link-best}
+use Rattle.kernel.proofs.Link.{link-store, link-select, link-best, link-least}
 use Rattle.state.specs.Blank.{blankDim}
 use Rattle.state.specs.View.{laid, sizeNumber}
 use Rattle.state.specs.declared.State.{State}
-use Rattle.closing.specs.Raw.{parentsAfter, idleAfter, settled, startOf, rawParents, rawSlots, rawNexts, reopened, closedWith, rawClose}
+use Rattle.closing.specs.Raw.{parentsAfter, becameSmaller, settled, startOf, rawParents, rawSlots, rawNexts, reopened, closedWith, rawClose}
 use Rattle.closing.specs.declared.Closed.{Closed}
 use Rattle.closing.specs.declared.Slots.{Slots}
 use Rattle.closing.proofs.Extras.{stored-take, selected-take}
@@ -102,16 +102,17 @@ module _ (S : Setup) (m : Plain.State de) (N : ℕ) (sized : m .size ≡ some N)
   best-is : bestSlot (values (map memberOf news)) ≡ slots .best
   best-is = link-best news (news-numbers (m .slots .closed))
 
-  idle-by : (k : ℕ) → m .slots .closed ≡ k → idleAfter k (m .slots .idle) (anyReplaced (take N (padTo 160 blankMember (map memberOf olds))) row) ≡ L.newIdle de k (m .slots) row
-  unfolding idleAfter
+  idle-by : (k : ℕ) → m .slots .closed ≡ k
+      → L.newIdle k (m .slots .idle) (becameSmaller (take N (padTo 160 blankMember (map memberOf olds))) (map memberOf news))
+      ≡ L.newIdle k (m .slots .idle) (L.becameSmaller (Plain.values de olds) (Plain.values de news))
   idle-by zero e = refl
   idle-by (suc k) e =
-      rw (ne-eqb (suc k) 0 (λ z. omega arith))
-      (ap (λ (b : Bool). cond b 0 (L.up (m .slots .idle))) (ap (λ (l : List Member). anyReplaced l row) (first-parents (omega (arith, e))) ∙ sym (link-replaced olds row)))
+      ap₂ (λ (v w : Float). cond (lt v w) 0 (L.up (m .slots .idle))) (link-least news (news-numbers (m .slots .closed)))
+      (ap (λ (l : List Member). leastValue (values l)) (first-parents (omega (arith, e))) ∙ link-least olds (run .good))
 
-  idle-is : idleAfter (m .slots .closed) (m .slots .idle) (anyReplaced (take (sizeNumber (m .size)) (padTo 160 blankMember (map memberOf olds))) (take (sizeNumber (m .size)) rs)) ≡ slots .idle
+  idle-is : L.newIdle (m .slots .closed) (m .slots .idle) (becameSmaller (take (sizeNumber (m .size)) (padTo 160 blankMember (map memberOf olds))) (rawParents (laid S m) rs)) ≡ slots .idle
   idle-is =
-      ap (λ (n : ℕ). idleAfter (m .slots .closed) (m .slots .idle) (anyReplaced (take n (padTo 160 blankMember (map memberOf olds))) (take n rs))) n-is
+      ap₂ (λ (n : ℕ) (l : List Member). L.newIdle (m .slots .closed) (m .slots .idle) (becameSmaller (take n (padTo 160 blankMember (map memberOf olds))) l)) n-is parents-are
       ∙ idle-by (m .slots .closed) refl
 
   -- the new candidates of the code, and of the ledger's kernel

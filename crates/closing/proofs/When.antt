@@ -2,14 +2,15 @@
 use mathlib.Core.Path.{_≡_, refl, sym, _∙_}
 use mathlib.Core.Bool.{Bool, true, false, not}
 use mathlib.Core.List.{List, _∷_}
-use Prim.Native.Nat.{ℕ, _+_, _≤_, _<_}
+use Prim.Native.Nat.{ℕ, zero, suc, _+_, _≤_, _<_}
 use native.Mathlib.Numerals.{add-one}
-use borrow.Author.Tests.{eq-eqb, ne-eqb, lt-leb, le-leb}
+use native.Mathlib.Omega.{arith}
+use borrow.Author.Tests.{lt-leb, le-leb}
 use lib.ListN.{length, getD, take, drop, drop-of-length-le}
 use lib.Seq.{drop-cons, length-take-le, getD-take}
-use Rattle.ledger.specs.Closing.{up}
+use Rattle.ledger.specs.Closing.{up, newIdle}
 use Rattle.ledger.specs.Words.{all}
-use Rattle.closing.specs.Raw.{isTrue, closesNow, idleAfter}
+use Rattle.closing.specs.Raw.{isTrue, closesNow}
 
 -- what a negated test says
 not-true : (b : Bool) → not b ≡ true → b ≡ false
@@ -57,15 +58,14 @@ module _ (d : Bool) (n T : ℕ) (found : List Bool) where
 
 -- ---- the idle count
 
-module _ (closed idle : ℕ) (replaced : Bool) where
-  pub idle-first : closed ≡ 0 → 0 ≡ idleAfter closed idle replaced
-  unfolding idleAfter
-  idle-first e = rw (eq-eqb closed 0 e)
+pub idle-first : (closed idle : ℕ) (smaller : Bool) → closed ≡ 0 → 0 ≡ newIdle closed idle smaller
+idle-first zero idle smaller e = refl
+idle-first (suc k) idle smaller e = absurd (omega (arith, e))
 
-  pub idle-reset : (closed ≡ 0 → ⊥) → replaced ≡ true → 0 ≡ idleAfter closed idle replaced
-  unfolding idleAfter
-  idle-reset h e = rw (ne-eqb closed 0 h, e)
+pub idle-reset : (closed idle : ℕ) (smaller : Bool) → (closed ≡ 0 → ⊥) → smaller ≡ true → 0 ≡ newIdle closed idle smaller
+idle-reset zero idle smaller h e = absurd (h refl)
+idle-reset (suc k) idle smaller h e = rw e
 
-  pub idle-more : (k : ℕ) → (closed ≡ 0 → ⊥) → replaced ≡ false → k ≡ up idle → k ≡ idleAfter closed idle replaced
-  unfolding idleAfter
-  idle-more k h e g = g ∙ rw (ne-eqb closed 0 h, e)
+pub idle-more : (closed idle : ℕ) (smaller : Bool) (i : ℕ) → (closed ≡ 0 → ⊥) → smaller ≡ false → i ≡ up idle → i ≡ newIdle closed idle smaller
+idle-more zero idle smaller i h e g = absurd (h refl)
+idle-more (suc k) idle smaller i h e g = g ∙ rw e

@@ -3,7 +3,7 @@ use Prim.Native.Nat.{ℕ, _≤_}
 use mathlib.Core.Bool.{Bool, true, false, _&&_, cond}
 use mathlib.Core.List.{List}
 use lib.Dec.{eqb, leb}
-use lib.Ieee.{Float}
+use lib.Ieee.{Float, lt}
 use lib.ListN.{take, replicate}
 use Rattle.rng_util.specs.Gen.{Made}
 use Rattle.rng_util.specs.Many.{padTo}
@@ -14,10 +14,10 @@ use Rattle.candidates.specs.Space.{FewChoices, spaceOf}
 use Rattle.candidates.specs.declared.Candidate.{Candidate}
 use Rattle.evolution.specs.Trial.{nextCandidates}
 use Rattle.evolution.specs.declared.Member.{Member}
-use Rattle.selection.specs.Best.{values, bestSlot}
+use Rattle.selection.specs.Best.{values, bestSlot, leastValue}
 use Rattle.selection.specs.Records.{membersRec}
-use Rattle.selection.specs.Select.{selected, anyReplaced, stored}
-use Rattle.ledger.specs.Closing.{up}
+use Rattle.selection.specs.Select.{selected, stored}
+use Rattle.ledger.specs.Closing.{up, newIdle}
 use Rattle.ledger.specs.Words.{all}
 use Rattle.state.specs.Blank.{blankTrial}
 use Rattle.state.specs.declared.State.{State}
@@ -40,9 +40,9 @@ closesNow discovered n trials found = discovered && (leb n trials && all isTrue 
 unfoldable pub parentsAfter : ℕ → List Member → List Candidate → List Float → List Member
 parentsAfter closed ps cs rs = cond (eqb closed 0) (stored cs rs) (selected ps cs rs)
 
--- "idle generations, closed since one last replaced a slot, 0 up to and at the first closing"
-unfoldable pub idleAfter : ℕ → ℕ → Bool → ℕ
-idleAfter closed idle replaced = cond (eqb closed 0) 0 (cond replaced 0 (up idle))
+-- W5: whether "the least value of all slots .. became numerically smaller", by the parents before and after
+abbrev pub becameSmaller : List Member → List Member → Bool
+becameSmaller ps qs = lt (leastValue (values qs)) (leastValue (values ps))
 
 -- the slots with these parents: "Best slot: first least, 0 if all are +infinity"
 abbrev pub slotsOf : List Member → ℕ → ℕ → Slots
@@ -50,7 +50,7 @@ slotsOf ps closed idle = record { parents = membersRec ps; best = bestSlot (valu
 
 -- the slots after a generation with these candidates has closed with these results; "Both counters stop at 4,294,967,295"
 unfoldable pub settled : ℕ → ℕ → List Member → List Candidate → List Float → Slots
-settled closed idle ps cs rs = slotsOf (parentsAfter closed ps cs rs) (up closed) (idleAfter closed idle (anyReplaced ps rs))
+settled closed idle ps cs rs = let qs = parentsAfter closed ps cs rs in slotsOf qs (up closed) (newIdle closed idle (becameSmaller ps qs))
 
 -- ---- the whole
 

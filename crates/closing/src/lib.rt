@@ -2,9 +2,9 @@
 ghost use mathlib.Core.Path.{_≡_};
 ghost use Prim.Native.Nat.{_≤_};
 ghost use lib.ListN.{take};
-ghost use Rattle.ledger.specs.Closing.{up};
+ghost use Rattle.ledger.specs.Closing.{up, newIdle};
 ghost use Rattle.selection.specs.Records.{membersRec};
-ghost use Rattle.closing.specs.Raw.{closesNow, parentsAfter, idleAfter, settled, Closable, rawClose};
+ghost use Rattle.closing.specs.Raw.{closesNow, parentsAfter, settled, Closable, rawClose};
 use candidates::Candidate;
 use evolution::Member;
 use rng_util::Gen;
@@ -54,14 +54,14 @@ fn up_one(k: u32) -> u32
     if k < 4294967295 { k + 1 } else { 4294967295 }
 }
 
-// Idle generations: closed since one last replaced a slot, 0 up to and at the first closing.
-fn new_idle(closed: u32, idle: u32, replaced: bool) -> u32
-    ensures { λ r. ⌜ r ≡ idleAfter closed idle replaced ⌝ }
+// Idle generations: closed since the least value of all slots last became smaller, 0 up to and at the first closing.
+fn new_idle(closed: u32, idle: u32, smaller: bool) -> u32
+    ensures { λ r. ⌜ r ≡ newIdle closed idle smaller ⌝ }
 {
     if closed == 0 {
         return 0;
     }
-    if replaced {
+    if smaller {
         return 0;
     }
     up_one(idle)
@@ -96,14 +96,14 @@ fn settle(
     requires { ⌜ n ≤ 160 ⌝ }
     ensures { λ r. ⌜ r ≡ settled closed idle (take n parents) (take n candidates) (take n results) ⌝ }
 {
-    let replaced = selection::any_replaced(parents, results, n);
     let population = new_parents(closed, parents, candidates, results, n);
     let best = selection::best_slot(population, n);
+    let smaller = selection::least_value(population, n) < selection::least_value(parents, n);
     Slots {
         parents: population,
         best,
         closed: up_one(closed),
-        idle: new_idle(closed, idle, replaced),
+        idle: new_idle(closed, idle, smaller),
     }
 }
 

@@ -1,14 +1,16 @@
 -- What the code's selection does at a closing is what the ledger's definition says: slot by slot, the two records of a parent side by side. Idea: plain recursion; the two ways to find the
 -- best slot are one by selection's `best-is`.
-use mathlib.Core.Path.{_≡_, refl, ap, _∙_}
+use mathlib.Core.Path.{_≡_, refl, ap, ap₂, _∙_}
 use mathlib.Core.Logic.{_≢_}
-use mathlib.Core.Bool.{Bool, true, false, cond, _||_}
+use mathlib.Core.Bool.{Bool, true, false, cond}
+use Prim.Native.Nat.{ℕ}
 use mathlib.Core.List.{List, [], _∷_, map, List·Memᴰ·head, List·Memᴰ·tail}
-use lib.Ieee.{Float, nan, le}
+use lib.Ieee.{Float, nan, inf, le}
+use lib.ListN.{getD}
 use Rattle.candidates.specs.declared.Candidate.{Candidate}
 use Rattle.evolution.specs.declared.Member.{Member}
-use Rattle.selection.specs.Select.{survivorOf, selected, anyReplaced, stored}
-use Rattle.selection.specs.Best.{values, bestSlot}
+use Rattle.selection.specs.Select.{survivorOf, selected, stored}
+use Rattle.selection.specs.Best.{values, bestSlot, leastValue}
 use Rattle.selection.proofs.Best.{Numbers, best-is}
 use Rattle.ledger.specs.Words.{All}
 use Rattle.ledger.specs.Kernel.{Parent}
@@ -38,16 +40,6 @@ link-select (p ∷ ps) (c ∷ cs) (r ∷ rs) = go (le r (p .value)) (link-select
     go true e = ap (λ (l : List Member). record { candidate = c; value = r } ∷ l) e
     go false e = ap (λ (l : List Member). memberOf p ∷ l) e
 
-pub link-replaced : (ps : List (Parent Candidate)) (rs : List Float) → Closing.anyReplaced de ps rs ≡ anyReplaced (map memberOf ps) rs
-unfolding Closing.anyReplaced anyReplaced
-link-replaced [] rs = refl
-link-replaced (p ∷ ps) [] = refl
-link-replaced (p ∷ ps) (r ∷ rs) = go (le r (p .value)) (link-replaced ps rs)
-  where
-    go : (t : Bool) → Closing.anyReplaced de ps rs ≡ anyReplaced (map memberOf ps) rs → cond t true (Closing.anyReplaced de ps rs) ≡ t || anyReplaced (map memberOf ps) rs
-    go true e = refl
-    go false e = e
-
 pub link-values : (ps : List (Parent Candidate)) → values (map memberOf ps) ≡ State.values de ps
 link-values [] = refl
 link-values (p ∷ ps) = ap (λ (l : List Float). p .value ∷ l) (link-values ps)
@@ -59,3 +51,7 @@ link-best ps h = best-is (values (map memberOf ps)) (numbers ps h) ∙ ap Closin
     numbers : (qs : List (Parent Candidate)) → All (λ p. p .value ≢ nan) qs → Numbers (values (map memberOf qs))
     numbers [] k = all-nil (λ v. v ≢ nan)
     numbers (q ∷ qs) k = all-cons (λ v. v ≢ nan) (q .value) (values (map memberOf qs)) (k q (List·Memᴰ·head refl)) (numbers qs (λ a t. k a (List·Memᴰ·tail t)))
+
+-- the least of all slots
+pub link-least : (ps : List (Parent Candidate)) → All (λ p. p .value ≢ nan) ps → leastValue (values (map memberOf ps)) ≡ Closing.leastOf (State.values de ps)
+link-least ps h = ap₂ (λ (vs : List Float) (b : ℕ). getD vs b (inf false)) (link-values ps) (link-best ps h)

@@ -6,6 +6,7 @@ use Rattle.ledger.specs.State.{numbers, cap, State}
 use Rattle.ledger.specs.Closing.{counted}
 use Rattle.ledger.specs.Sample.{discovers, stateRefusal}
 use Rattle.ledger.specs.Ledger.{isOpen, isFirst, Ledger, firstResults, ledgerRefusal}
+use Rattle.ledger.specs.Idle.{idleOn}
 use Rattle.ledger.specs.Claim.{placed}
 use Rattle.ledger.proofs.Lists.{length-map}
 use Rattle.ledger.proofs.Trials.{opened, placed-numbers, has-open}
@@ -28,6 +29,7 @@ module _ (K : Kernel) (L : Laws K) where
     pub size : s .size ≡ l .size
     pub trials : s .trials ≡ map (placed (length (l .dims))) (l .openTrials)
     pub closed : s .slots .closed ≡ min (length (l .generations)) cap
+    pub idle : s .slots .idle ≡ min (idleOn (l .generations)) cap
 
   pub trial-numbers : (s : State K) (l : Ledger K) → Corr s l → numbers (s .trials) ≡ opened (l .openTrials)
   trial-numbers s l r = ap numbers (r .trials) ∙ placed-numbers (length (l .dims)) (l .openTrials)

@@ -7,6 +7,7 @@ use Rattle.ledger.specs.Assignment.{Accepted}
 use Rattle.ledger.specs.Soundness.{Sound}
 use Rattle.ledger.specs.Sample.{stateRefusal, accept, outcome, step, sample, elevenAt}
 use Rattle.ledger.specs.Ledger.{Ledger, empty, refusalOf, accepted, unlessRefused, enterCall}
+use Rattle.ledger.specs.Idle.{idleSince}
 use Rattle.ledger.specs.Sampler.{Sampler, viewed, Meets}
 use Rattle.ledger.specs.Claim.{refusalIn, settingIn, Point, Moment, moment, ran, definedResult, tableRefusal, after, start, LedgerCloses, SamplerCloses, HandedBack}
 use Rattle.ledger.proofs.Lists.{none≢some, neither, not-refused}
@@ -138,12 +139,12 @@ module _ (K : Kernel) (L : Laws K) where
             }
 
       pub begins : Stands [] (start K X S)
-      unfolding fresh empty
+      unfolding fresh empty idleSince
       begins =
           record {
             inv =
                 record {
-                  corr = record { first = refl; dims = refl; size = refl; trials = refl; closed = refl };
+                  corr = record { first = refl; dims = refl; size = refl; trials = refl; closed = refl; idle = refl };
                   before = λ z. (refl, refl);
                   share = λ g y. absurd (List·Memᴰ·not-nil y);
                   past =

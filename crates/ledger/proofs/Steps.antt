@@ -3,7 +3,7 @@ use Rattle.ledger.specs.Words.{All}
 use Rattle.ledger.specs.Kernel.{Gen, Made, Kernel, Laws}
 use Rattle.ledger.specs.Call.{Call}
 use Rattle.ledger.specs.State.{Trial, numbers, State}
-use Rattle.ledger.specs.Closing.{up, newParents, anyReplaced, newIdle, settle, reopen, close}
+use Rattle.ledger.specs.Closing.{up, newIdle, newParents, settle, reopen, close}
 use Rattle.ledger.specs.Assignment.{placeIn, move, Accepted, serve, assign}
 use Rattle.ledger.specs.Soundness.{Running, Sound}
 use Rattle.ledger.proofs.Lists.{none≢some, some-inj, bind-some, at-below, past-end, snoc-old, snoc-new, snoc-length, all-nil, all-snoc, length-map}
@@ -43,16 +43,10 @@ module _ (K : Kernel) (L : Laws K) where
         go zero = store-all K (Fits (s .dims)) (λ v. v ≢ nan) (s .candidates) row (w .fit) (q .good)
         go (suc k) = select-all K (Fits (s .dims)) (λ v. v ≢ nan) (s .slots .parents) (s .candidates) row (λ p m. (w .parents-fit p m, w .good p m)) (w .fit) (q .good)
 
-    idle-le : newIdle K (s .slots .closed) (s .slots) row ≤ up (s .slots .closed)
-    idle-le = go (s .slots .closed) (anyReplaced K (s .slots .parents) row) (w .idle)
-      where
-        pick : (k : ℕ) (b : Bool) → s .slots .idle ≤ k → cond b 0 (up (s .slots .idle)) ≤ up k
-        pick k true h = omega arith
-        pick k false h = omega arith
-
-        go : (k : ℕ) (b : Bool) → s .slots .idle ≤ k → newIdle K k (s .slots) row ≤ up k
-        go zero b h = omega arith
-        go (suc k) b h = pick (suc k) (anyReplaced K (s .slots .parents) row) h
+    idle-le : (k : ℕ) (b : Bool) → s .slots .idle ≤ k → newIdle k (s .slots .idle) b ≤ up k
+    idle-le zero b h = omega arith
+    idle-le (suc k) true h = omega arith
+    idle-le (suc k) false h = omega arith
 
     pub close-running : (cs : List Candidate) → length cs ≡ N → All (Fits (s .dims)) cs → Running K S N (reopen K s (settle K (s .slots) (s .candidates) row) cs)
     close-running cs e f =
@@ -70,7 +64,7 @@ module _ (K : Kernel) (L : Laws K) where
           parents-fit = λ p m. slots-all p m .0;
           good = λ p m. slots-all p m .1;
           best = refl;
-          idle = idle-le;
+          idle = idle-le (s .slots .closed) _ (w .idle);
           capped = omega arith;
         }
 

@@ -8,8 +8,8 @@ use mathlib.Core.List.{List, [], _∷_}
 use mathlib.Core.Option.{Option, none, some}
 use Prim.Native.Nat.{ℕ, zero, suc, min}
 use lib.Dec.{leb, eqb}
-use lib.ListN.{length, take}
-use lib.Ieee.{Float, le}
+use lib.ListN.{length, take, getD}
+use lib.Ieee.{Float, inf, le, lt}
 
 -- ---- the best slot: "first least, 0 if all are +infinity"
 
@@ -23,9 +23,25 @@ unfoldable pub bestOf : List Float → ℕ
 bestOf [] = zero
 bestOf (v ∷ vs) = cond (atMost v vs) zero (suc (bestOf vs))
 
--- a counter one up, to its stop
+-- the least of the values, which the best slot has; +infinity where there is no value
+abbrev pub leastOf : List Float → Float
+leastOf vs = getD vs (bestOf vs) (inf false)
+
+-- ---- the counters
+
+-- one up, to the stop
 abbrev pub up : ℕ → ℕ
 up n = min (suc n) cap
+
+-- W5: whether "the least value of all slots .. became numerically smaller", by the values before and after a closing; a zero of the other sign is not smaller
+abbrev pub becameSmaller : List Float → List Float → Bool
+becameSmaller before after = lt (leastOf after) (leastOf before)
+
+-- "the number of closed generations since [it] last [did]. It is 0 up to and at the first closing": by the count of generations closed before, the idle count
+-- before, and whether it did
+abbrev pub newIdle : ℕ → ℕ → Bool → ℕ
+newIdle zero idle smaller = 0
+newIdle (suc k) idle smaller = cond smaller 0 (up idle)
 
 module _ (K : Kernel) where
   open Kernel K using (Setup, Candidate, Word, Entry, numberOf, valueOf, nexts)
@@ -70,22 +86,12 @@ module _ (K : Kernel) where
   newParents zero ps cs row = store cs row
   newParents (suc k) ps cs row = select ps cs row
 
-  -- whether a result replaces its slot's parent
-  unfoldable pub anyReplaced : List (Parent Candidate) → List Float → Bool
-  anyReplaced [] rs = false
-  anyReplaced (p ∷ ps) [] = false
-  anyReplaced (p ∷ ps) (r ∷ rs) = cond (le r (p .value)) true (anyReplaced ps rs)
-
-  -- "idle generations, closed since one last replaced a slot, 0 up to and at the first closing", by the count of generations closed before
-  abbrev pub newIdle : ℕ → Slots K → List Float → ℕ
-  newIdle zero o row = 0
-  newIdle (suc k) o row = cond (anyReplaced (o .parents) row) 0 (up (o .idle))
-
   -- the slots after a generation with these candidates has closed with these results
   abbrev pub settle : Slots K → List Candidate → List Float → Slots K
   settle o cs row =
       let ps = newParents (o .closed) (o .parents) cs row in
-      record { parents = ps; best = bestOf (values K ps); closed = up (o .closed); idle = newIdle (o .closed) o row }
+      let smaller = becameSmaller (values K (o .parents)) (values K ps) in
+      record { parents = ps; best = bestOf (values K ps); closed = up (o .closed); idle = newIdle (o .closed) (o .idle) smaller }
 
   -- ---- the next generation
 

@@ -1,19 +1,20 @@
 -- The running best of the Rust is the document's best slot, the first least value's, 0 if all are +infinity: for values that are not NaN.
-use Prim.Native.Nat.{ℕ, zero, suc, _+_, _*_, _<_, _≤_}
-use mathlib.Core.Path.{_≡_, refl, sym, _∙_, subst}
+use Prim.Native.Nat.{ℕ, zero, suc, _+_, _<_, _≤_}
+use mathlib.Core.Path.{_≡_, refl, sym, ap, _∙_, subst}
 use mathlib.Core.Logic.{_≢_}
 use mathlib.Core.Bool.{Bool, true, false, cond, _&&_}
 use mathlib.Core.List.{List, [], _∷_, List·Memᴰ·head, List·Memᴰ·tail}
+use native.Mathlib.Nat.{le-of-suc-le-suc, not-suc-le-zero}
 use native.Mathlib.Omega.{arith}
-use lib.Dec.{T, ltb→lt}
-use lib.Ieee.{Float, nan, inf, fin, up, down, lt, le, eq}
-use lib.ListN.{length, take, length-map}
-use lib.Seq.{length-take-le}
+use lib.Dec.{T}
+use lib.Ieee.{Float, nan, inf, fin, lt, le, eq}
+use lib.ListN.{length, take, getD, length-map}
+use lib.Seq.{length-take-le, getD-take}
 use Rattle.evolution.specs.declared.Member.{Member}
-use Rattle.selection.specs.Best.{values, bestFrom, bestSlot}
+use Rattle.selection.specs.Best.{values, bestFrom, bestSlot, leastValue}
 use Rattle.ledger.specs.Words.{All}
 use Rattle.ledger.specs.Closing.{atMost, bestOf}
-use Rattle.ledger.proofs.Order.{le-trans, le-lt-trans, not-le→lt}
+use Rattle.ledger.proofs.Order.{le-trans, le-lt-trans, lt-irrefl, not-le→lt}
 
 -- no value is NaN
 abbrev pub Numbers : List Float → Type 0
@@ -45,16 +46,8 @@ of-true : (t : Bool) → t ≡ true → T t
 of-true t e = subst T (sym e) tt
 
 -- strictly less: not at most
-irrefl : (x : Float) → T (lt x x) → ⊥
-unfolding lt
-irrefl nan h = h
-irrefl (inf true) h = h
-irrefl (inf false) h = h
-irrefl (fin false m e) h = omega (arith, ltb→lt (m * up e * down e) (m * up e * down e) h)
-irrefl (fin true m e) h = omega (arith, ltb→lt (m * up e * down e) (m * up e * down e) h)
-
 lt-not-le : (v w : Float) → T (lt w v) → T (le v w) → ⊥
-lt-not-le v w l h = irrefl v (le-lt-trans v w v h l)
+lt-not-le v w l h = lt-irrefl v (le-lt-trans v w v h l)
 
 -- what is at most w is at most all that w is at most
 down-to : (v w : Float) (ws : List Float) → T (le v w) → T (atMost w ws) → T (atMost v ws)
@@ -124,3 +117,20 @@ pub best-in : (ps : List Member) (n : ℕ) → n ≤ length ps → 1 ≤ n → b
 best-in ps n h l =
     let k : length (values (take n ps)) ≡ n = length-map (take n ps) _ ∙ length-take-le n ps h in
     omega (arith, best-below (values (take n ps)) (omega arith))
+
+-- ---- the least value, which the best slot has
+
+values-at : (ps : List Member) (i : ℕ) (z : Member) → i < length ps → getD (values ps) i (inf false) ≡ getD ps i z .value
+values-at [] i z h = absurd (not-suc-le-zero h)
+values-at (p ∷ ps) zero z h = refl
+values-at (p ∷ ps) (suc i) z h = values-at ps i z (le-of-suc-le-suc h)
+
+pub least-read : (ps : List Member) (n b : ℕ) (z : Member) → n ≤ length ps → 1 ≤ n → b ≡ bestSlot (values (take n ps)) → getD ps b z .value ≡ leastValue (values (take n ps))
+least-read ps n b z h l e =
+    let k = best-in ps n h l in
+    ap (λ (i : ℕ). getD ps i z .value) e
+    ∙ ap (λ (m : Member). m .value) (sym (getD-take n ps (bestSlot (values (take n ps))) z k))
+    ∙ sym (values-at (take n ps) (bestSlot (values (take n ps))) z (rw (length-take-le n ps h) k))
+
+pub least-none : (ps : List Member) (n : ℕ) → n ≡ 0 → inf false ≡ leastValue (values (take n ps))
+least-none ps n e = sym (ap (λ (k : ℕ). leastValue (values (take k ps))) e)

@@ -1,18 +1,16 @@
--- The slots of a closing, one by one: what a loop over them fills or looks for is the definition's list or test.
-use Prim.Native.Nat.{ℕ, zero, suc, _+_, _<_, _≤_}
+-- The slots of a closing, one by one: what a loop over them fills is the definition's list.
+use Prim.Native.Nat.{ℕ, zero, suc, _+_, _≤_}
 use native.Mathlib.Omega.{arith}
-use mathlib.Core.Path.{_≡_, refl, ap, _∙_}
-use mathlib.Core.Bool.{true, false, _||_}
+use mathlib.Core.Path.{_≡_, refl, ap}
 use mathlib.Core.List.{List, [], _∷_}
-use lib.Ieee.{Float, nan, le}
-use lib.ListN.{length, getD, take, drop, drop-of-length-le}
-use lib.Seq.{length-take-le, getD-take}
+use lib.Ieee.{Float, nan}
+use lib.ListN.{length, getD, take, drop}
 use Rattle.rng_util.specs.Many.{listed}
 use Rattle.candidates.specs.declared.Candidate.{Candidate}
 use Rattle.candidates.proofs.Lists.{next-drop}
 use Rattle.evolution.specs.Mutant.{noMember}
 use Rattle.evolution.specs.declared.Member.{Member}
-use Rattle.selection.specs.Select.{survivorOf, selected, anyReplaced, stored}
+use Rattle.selection.specs.Select.{survivorOf, selected, stored}
 
 -- what a read past the end of an array of candidates gives
 abbrev noCandidate : Candidate
@@ -45,23 +43,3 @@ module _ (cs : List Candidate) (rs : List Float) where
 
   pub stored-is : (n : ℕ) → n ≤ length cs → n ≤ length rs → listed storedAt n 0 ≡ stored (take n cs) (take n rs)
   stored-is n b c = stored-from n 0 (omega arith) (omega arith)
-
--- ---- whether one is replaced: the slots not yet looked at decide
-
-module _ (ps : List Member) (rs : List Float) (n i : ℕ) (hp : n ≤ length ps) (hr : n ≤ length rs) where
-  module _ (h : i < n) where
-    at-i : anyReplaced (drop i (take n ps)) (drop i (take n rs)) ≡ le (getD rs i nan) (getD ps i noMember .value) || anyReplaced (drop (i + 1) (take n ps)) (drop (i + 1) (take n rs))
-    unfolding anyReplaced
-    at-i =
-        rw (next-drop (take n ps) i noMember (rw (length-take-le n ps hp) h), next-drop (take n rs) i nan (rw (length-take-le n rs hr) h))
-        (rw (getD-take n ps i noMember h, getD-take n rs i nan h))
-
-    pub replaced-yes : le (getD rs i nan) (getD ps i noMember .value) ≡ true → anyReplaced (drop i (take n ps)) (drop i (take n rs)) ≡ true
-    replaced-yes e = at-i ∙ rw e
-
-    pub replaced-no : le (getD rs i nan) (getD ps i noMember .value) ≡ false → anyReplaced (drop i (take n ps)) (drop i (take n rs)) ≡ anyReplaced (drop (i + 1) (take n ps)) (drop (i + 1) (take n rs))
-    replaced-no e = at-i ∙ rw e
-
-  pub replaced-end : n ≤ i → anyReplaced (drop i (take n ps)) (drop i (take n rs)) ≡ false
-  unfolding anyReplaced
-  replaced-end h = rw (drop-of-length-le (take n ps) {i = i} (rw (length-take-le n ps hp) h))

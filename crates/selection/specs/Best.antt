@@ -3,6 +3,7 @@ use Prim.Native.Nat.{ℕ, _+_}
 use mathlib.Core.Bool.{false, cond}
 use mathlib.Core.List.{List, [], _∷_, map}
 use lib.Ieee.{Float, inf, lt}
+use lib.ListN.{getD}
 use Rattle.evolution.specs.declared.Member.{Member}
 
 -- what the slots hold
@@ -17,3 +18,7 @@ bestFrom (w ∷ ws) i v b = cond (lt w v) (bestFrom ws (i + 1) w i) (bestFrom ws
 -- from +infinity and slot 0
 unfoldable pub bestSlot : List Float → ℕ
 bestSlot vs = bestFrom vs 0 (inf false) 0
+
+-- the least of the values, which the best slot has; +infinity where there is no slot
+abbrev pub leastValue : List Float → Float
+leastValue vs = getD vs (bestSlot vs) (inf false)

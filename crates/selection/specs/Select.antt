@@ -1,5 +1,5 @@
 -- Step 6: what each slot holds after a closing.
-use mathlib.Core.Bool.{Bool, false, _||_, cond}
+use mathlib.Core.Bool.{cond}
 use mathlib.Core.List.{List, [], _∷_}
 use lib.Ieee.{Float, le}
 use Rattle.candidates.specs.declared.Candidate.{Candidate}
@@ -19,12 +19,6 @@ selected [] cs rs = []
 selected (p ∷ ps) [] rs = []
 selected (p ∷ ps) (c ∷ cs) [] = []
 selected (p ∷ ps) (c ∷ cs) (r ∷ rs) = survivorOf p c r ∷ selected ps cs rs
-
--- whether the closing replaces a slot: what the idle generations are counted by
-unfoldable pub anyReplaced : List Member → List Float → Bool
-anyReplaced [] rs = false
-anyReplaced (p ∷ ps) [] = false
-anyReplaced (p ∷ ps) (r ∷ rs) = le r (p .value) || anyReplaced ps rs
 
 -- "The first closing stores candidates and values"
 unfoldable pub stored : List Candidate → List Float → List Member

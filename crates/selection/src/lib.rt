@@ -3,8 +3,8 @@
 ghost use mathlib.Core.Path.{_≡_};
 ghost use Prim.Native.Nat.{_≤_};
 ghost use lib.ListN.{length, take};
-ghost use Rattle.selection.specs.Select.{judged, survivorOf, selected, anyReplaced, stored};
-ghost use Rattle.selection.specs.Best.{values, bestSlot};
+ghost use Rattle.selection.specs.Select.{judged, survivorOf, selected, stored};
+ghost use Rattle.selection.specs.Best.{values, bestSlot, leastValue};
 ghost use Rattle.selection.specs.Size.{sizeOf};
 ghost use Rattle.candidates.specs.Records.{rowRec};
 ghost use Rattle.selection.specs.Records.{blankMember, membersRec};
@@ -150,23 +150,6 @@ pub fn perform_selection(
     population
 }
 
-// Whether a slot's parent is replaced.
-pub fn any_replaced(parents: [Member; 160], results: [f64; 160], n: usize) -> bool
-    requires { ⌜ n ≤ 160 ⌝ }
-    ensures { λ r. ⌜ r ≡ anyReplaced (take n parents) (take n results) ⌝ }
-{
-    let mut i: usize = 0;
-    while i < n {
-        let p = parents[i];
-        let r = results[i];
-        if r <= p.value {
-            return true;
-        }
-        i += 1;
-    }
-    false
-}
-
 // The first least value's slot; 0 if all are +infinity.
 pub fn best_slot(parents: [Member; 160], n: usize) -> usize
     requires { ⌜ n ≤ 160 ⌝ }
@@ -186,4 +169,16 @@ pub fn best_slot(parents: [Member; 160], n: usize) -> usize
         }
     }
     best
+}
+
+// The least value of all slots, which the best slot has; +infinity where there is no slot.
+pub fn least_value(parents: [Member; 160], n: usize) -> f64
+    requires { ⌜ n ≤ 160 ⌝ }
+    ensures { λ r. ⌜ r ≡ leastValue (values (take n parents)) ⌝ }
+{
+    if n == 0 {
+        return f64::from_bits(0x7ff0_0000_0000_0000);
+    }
+    let best = parents[best_slot(parents, n)];
+    best.value
 }

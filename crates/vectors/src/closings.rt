@@ -62,8 +62,8 @@ pub fn closings() {
     );
     let third = close(trials(second, 11, 14), [10, 11, 12, 13], values, 14);
     figure(
-        b"equal results: the same values, three closed, none idle",
-        seen(third, values, 1, 3, 0),
+        b"equal results: the same values, three closed, two idle",
+        seen(third, values, 1, 3, 2),
     );
     all_infinite(open);
 }
