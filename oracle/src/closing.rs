@@ -1,5 +1,5 @@
 //! What a sample call did, read from the Rust's state before and after it: whether it closed a generation, the
-//! counters that document 01 adds, and which branches it met.
+//! counters that documents 01 and 02 add, and which branches it met.
 
 use std::collections::{HashMap, HashSet};
 
@@ -92,13 +92,21 @@ impl Before {
         }
         p.assert_hidden_part();
         let results = results_of(&self.trials[..p.size()], history);
-        let replaced = self.count_selection(&p, &results, counts);
+        self.count_selection(&p, &results, counts);
         self.count_history(&p, &results, trial, history, counts);
         if !p.bounds().is_empty() {
             count_crossover(&p, counts);
             draws::count(&p, c, self.word, counts);
         }
         let first = self.values.is_empty();
+        let smaller = least(p.values()) < least(&self.values);
+        let idle = !first && !smaller;
+        self.count_idle(&p, idle, c.idle, counts);
+        // The same on the log alone: one of the results is below every result counted before.
+        if let Some(counted) = c.counted {
+            assert!(first || smaller == results.iter().any(|&result| result < counted));
+            c.counted = Some(counted.min(least(&results)));
+        }
         counts.closings += 1;
         counts.closings_first += u64::from(first);
         counts.closings_later += u64::from(!first);
@@ -113,17 +121,29 @@ impl Before {
         drop(p);
         c.cleared = false;
         counts.closed_stopped += u64::from(c.closed == u32::MAX);
-        counts.idle_stopped += u64::from(!first && !replaced && c.idle == u32::MAX);
-        // Document 01's counters, which the Rust does not have.
+        // The counters of documents 01 and 02, which the Rust does not have: closed generations, and those since the
+        // least value of all slots last became numerically smaller, 0 at the first closing.
         c.closed = c.closed.saturating_add(1);
-        c.idle = if first || replaced { 0 } else { c.idle.saturating_add(1) };
-        counts.closings_idle += u64::from(!first && !replaced);
+        c.idle = if idle { c.idle.saturating_add(1) } else { 0 };
     }
 
-    /// The slots one by one; says whether any was replaced. The Rust's parents must have the values that the
-    /// driver works out, since the counter of idle generations is built on them.
-    fn count_selection(&self, p: &Probe<'_>, results: &[f64], counts: &mut Counts) -> bool {
-        let mut replaced = false;
+    /// What an idle closing did to the slots, and what ended the idle ones.
+    fn count_idle(&self, p: &Probe<'_>, idle: bool, before: u32, counts: &mut Counts) {
+        counts.closings_idle += u64::from(idle);
+        counts.idle_stopped += u64::from(idle && before == u32::MAX);
+        counts.idle_ends += u64::from(!idle && before > 0);
+        if idle {
+            let slots = || p.values().iter().zip(&self.values);
+            let other = |now: &f64, old: &f64| now == old && now.to_bits() != old.to_bits();
+            counts.idle_smaller += u64::from(slots().any(|(now, old)| now < old));
+            counts.idle_zero += u64::from(slots().any(|(now, old)| other(now, old)));
+            counts.idle_infinite += u64::from(least(&self.values) == f64::INFINITY);
+        }
+    }
+
+    /// The slots one by one. The Rust's parents must have the values that the driver works out, since the counter of
+    /// idle generations is built on them.
+    fn count_selection(&self, p: &Probe<'_>, results: &[f64], counts: &mut Counts) {
         for (slot, (&now, &result)) in p.values().iter().zip(results).enumerate() {
             counts.plus_infinity += u64::from(result == f64::INFINITY);
             counts.minus_infinity += u64::from(result == f64::NEG_INFINITY);
@@ -134,13 +154,12 @@ impl Before {
             let stays = result > parent;
             let expected = if stays { parent } else { result };
             assert_eq!(now.to_bits(), expected.to_bits(), "slot {slot}");
-            replaced |= !stays;
             counts.kept += u64::from(stays);
             counts.replaced_smaller += u64::from(result < parent);
             counts.replaced_equal += u64::from(result == parent);
             counts.replaced_zero += u64::from(result == parent && result.to_bits() != parent.to_bits());
         }
-        let least = p.values().iter().copied().fold(f64::INFINITY, f64::min);
+        let least = least(p.values());
         let later = !self.values.is_empty();
         counts.best_max += u64::from(later && least == f64::MAX && p.best() > 0);
         let minus = |v: &f64| v.to_bits() == (-0.0f64).to_bits();
@@ -150,7 +169,6 @@ impl Before {
         counts.best_moved += u64::from(later && p.best() != self.best);
         counts.best_tie += u64::from(ties > 1 && least < f64::INFINITY);
         counts.best_infinite += u64::from(least == f64::INFINITY);
-        replaced
     }
 
     fn count_history(
@@ -173,13 +191,18 @@ impl Before {
         counts.results_unordered += u64::from(!slots.is_sorted_by_key(|t| last[t].0));
         let open: HashSet<&u64> = self.trials.iter().collect();
         counts.results_strangers += u64::from(history.iter().any(|t| !open.contains(&t.id)));
-        let least = results.iter().copied().fold(f64::INFINITY, f64::min);
+        let least = least(results);
         let better = |t: &u64| last.get(t).is_some_and(|&(_, value)| value < least);
         counts.extras_better += u64::from(extras.iter().any(better));
         counts.closings_extras += u64::from(!extras.is_empty());
         counts.closings_64 += u64::from(extras.len() == 64);
         counts.closings_by_old += u64::from(self.trials.contains(&trial));
     }
+}
+
+/// The numerically least of the values.
+fn least(values: &[f64]) -> f64 {
+    values.iter().copied().fold(f64::INFINITY, f64::min)
 }
 
 /// The last entry of each trial.

@@ -1,5 +1,5 @@
 //! Runs a script through the Rust: one line in, its answer out. The two counters of `look` and the refusals are
-//! written from document 01, since the Rust has neither.
+//! written from documents 01 and 02, since the Rust has neither.
 
 use std::collections::HashSet;
 use std::io::{self, BufRead, Write};
@@ -30,8 +30,10 @@ pub struct Campaign {
     pub seed: u64,
     /// Closed generations, stopping at 4,294,967,295.
     pub closed: u32,
-    /// Closed generations since one last replaced a slot, likewise.
+    /// Those since the least value of all slots last became numerically smaller, likewise.
     pub idle: u32,
+    /// The least of the results that all its closings counted; a file has no results.
+    pub counted: Option<f64>,
     /// Trials that were open once, for counting alone.
     pub seen: HashSet<u64>,
     /// The history was cleared since the last closing, for counting alone.
@@ -52,6 +54,7 @@ impl Campaign {
             seed: setup.seed,
             closed: 0,
             idle: 0,
+            counted: Some(f64::INFINITY),
             seen: HashSet::new(),
             cleared: false,
             restored: false,
@@ -64,6 +67,7 @@ impl Campaign {
         Self {
             closed: plain.closed,
             idle: plain.idle,
+            counted: None,
             ..Self::new(DESampler::of(plain), &setup)
         }
     }

@@ -184,7 +184,7 @@ fn closings_and_the_counters() {
         [
             format!("look 1 1 0 {values}"),
             format!("look 1 2 1 {values}"),
-            format!("look 1 3 0 {values}")
+            format!("look 1 3 2 {values}")
         ]
     );
 }
