@@ -21,10 +21,10 @@
 extern "C" {
 #endif
 
-#define DE_VERSION "0.5.1"
+#define DE_VERSION "0.6.0"
 #define DE_VERSION_MAJOR 0
-#define DE_VERSION_MINOR 5
-#define DE_VERSION_PATCH 1
+#define DE_VERSION_MINOR 6
+#define DE_VERSION_PATCH 0
 
 /* The version of the library that is linked: DE_VERSION, where it is this header's. */
 const char *de_version(void);
@@ -198,7 +198,9 @@ typedef struct DeLook {
     uint64_t best;   /* the best slot */
     uint64_t n;      /* how many slots; the first n values are theirs */
     uint64_t closed; /* closed generations */
-    uint64_t idle;   /* generations closed since one last replaced a slot */
+    /* Closed generations since the least of the values last became numerically smaller (a tie is no change, nor is a
+     * zero of the other sign); 0 up to and at the first closing. */
+    uint64_t idle;
     double values[DE_MAX_POPULATION];
 } DeLook;
 

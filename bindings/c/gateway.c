@@ -95,18 +95,18 @@ int main(void) {
     if (made.kind != DE_MADE) {
         stop("set-up", made);
     }
-    printf("trial   gen    quota  flush  depth  scheduler      p99 ms\n");
+    printf("trial   gen  idle    quota  flush  depth  scheduler      p99 ms\n");
     for (uint64_t trial = 0; trial < TRIALS; trial++) {
         Settings s = ask(&state, trial, history);
-        uint64_t generation = look_at(&state).closed;
+        DeLook look = look_at(&state);
         double value = measure(s);
         int least = 1;
         for (uint64_t i = 0; i < trial; i++) {
             least = least && value < history[i].value;
         }
-        printf("%5llu %5llu %8.1f %6lld %6lld  %-11s %9.3f%s\n", (unsigned long long)trial,
-               (unsigned long long)generation, s.quota, (long long)s.flush, (long long)s.depth, schedulers[s.scheduler],
-               value, least ? " *" : "");
+        printf("%5llu %5llu %5llu %8.1f %6lld %6lld  %-11s %9.3f%s\n", (unsigned long long)trial,
+               (unsigned long long)look.closed, (unsigned long long)look.idle, s.quota, (long long)s.flush,
+               (long long)s.depth, schedulers[s.scheduler], value, least ? " *" : "");
         history[trial] = (DeCompletedTrial){trial, value};
     }
     DeLook look = look_at(&state);
@@ -114,8 +114,8 @@ int main(void) {
     Settings s = held(&state, look.best);
     printf("\nbest: %.3f ms with quota %.1f MB/s, flush every %lld ms, depth %lld, %s (slot %llu)\n", best, s.quota,
            (long long)s.flush, (long long)s.depth, schedulers[s.scheduler], (unsigned long long)look.best);
-    printf("generations closed: %llu; since one last replaced a slot: %llu\n", (unsigned long long)look.closed,
-           (unsigned long long)look.idle);
+    printf("generations closed: %llu; since the least value last became smaller: %llu\n",
+           (unsigned long long)look.closed, (unsigned long long)look.idle);
     if (fflush(stdout) != 0) {
         fprintf(stderr, "gateway: standard output is closed\n");
         return 1;

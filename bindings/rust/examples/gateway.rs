@@ -59,25 +59,29 @@ impl Run {
         };
     }
 
-    fn told(&mut self, trial: u64, generation: u64, s: Settings, value: f64, least: bool) {
+    /// A trial, with the closed and the idle generations so far.
+    fn told(&mut self, trial: u64, closed: u64, idle: u64, s: Settings, value: f64, least: bool) {
         let _ = writeln!(self.script, "tell {trial} {:016x}", value.to_bits());
         let mark = if least { " *" } else { "" };
         let scheduler = SCHEDULERS[s.scheduler as usize];
         let _ = writeln!(
             self.table,
-            "{trial:>5} {generation:>5} {:>8.1} {:>6} {:>6}  {scheduler:<11} {value:>9.3}{mark}",
+            "{trial:>5} {closed:>5} {idle:>5} {:>8.1} {:>6} {:>6}  {scheduler:<11} {value:>9.3}{mark}",
             s.quota, s.flush, s.depth,
         );
     }
 
     fn looked(&mut self, look: &Look) {
-        let kept = Settings::of(&look.settings).expect("a slot has a setting for each dimension");
         let _ = writeln!(self.script, "look");
         let _ = write!(self.answers, "look {} {} {}", look.best, look.closed, look.idle);
         for value in &look.values {
             let _ = write!(self.answers, " {:016x}", value.to_bits());
         }
         let _ = writeln!(self.answers);
+    }
+
+    fn ended(&mut self, look: &Look) {
+        let kept = Settings::of(&look.settings).expect("a slot has a setting for each dimension");
         let _ = writeln!(
             self.table,
             "\nbest: {:.3} ms with quota {:.1} MB/s, flush every {} ms, depth {}, {} (slot {})",
@@ -90,7 +94,7 @@ impl Run {
         );
         let _ = writeln!(
             self.table,
-            "generations closed: {}; since one last replaced a slot: {}",
+            "generations closed: {}; since the least value last became smaller: {}",
             look.closed, look.idle
         );
     }
@@ -127,19 +131,28 @@ fn campaign() -> Result<Run, Refusal> {
         CR.to_bits()
     );
     let _ = writeln!(run.answers, "new");
-    let _ = writeln!(run.table, "trial   gen    quota  flush  depth  scheduler      p99 ms");
+    let _ = writeln!(
+        run.table,
+        "trial   gen  idle    quota  flush  depth  scheduler      p99 ms"
+    );
     let mut history = Vec::new();
     let mut least = f64::INFINITY;
+    let (mut closed, mut idle) = (0, 0);
     for trial in 0..TRIALS {
         let settings = ask(&mut sampler, trial, &history, &mut run)?;
-        let generation = sampler.look()?.map_or(0, |look| look.closed);
+        if let Some(look) = sampler.look()? {
+            if look.closed > closed {
+                run.looked(&look);
+            }
+            (closed, idle) = (look.closed, look.idle);
+        }
         let value = measure(settings);
-        run.told(trial, generation, settings, value, value < least);
+        run.told(trial, closed, idle, settings, value, value < least);
         least = least.min(value);
         history.push(CompletedTrial::new(trial, value));
     }
     let look = sampler.look()?.expect("twelve generations have closed");
-    run.looked(&look);
+    run.ended(&look);
     Ok(run)
 }
 

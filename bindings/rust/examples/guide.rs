@@ -34,7 +34,6 @@ struct Told {
     value: f64,
     closed: u64,
     idle: u64,
-    least: f64,
 }
 
 impl Plan {
@@ -71,16 +70,12 @@ impl Plan {
             if !self.random {
                 history.push(trial);
             }
-            let (closed, idle, least) = match sampler.look()? {
-                Some(look) => (look.closed, look.idle, look.best_value()),
-                None => (0, 0, f64::INFINITY),
-            };
+            let (closed, idle) = sampler.look()?.map_or((0, 0), |look| (look.closed, look.idle));
             told.push(Told {
                 time,
                 value: trial.value,
                 closed,
                 idle,
-                least,
             });
         }
     }
@@ -154,15 +149,9 @@ fn workers_line(plan: Plan, slots: u64, workers: usize) -> Result<String, Refusa
     ))
 }
 
-/// The trials until so many generations in a row have closed and left look's least value as it was.
+/// The trials until look's idle count reached so many generations.
 fn stop(told: &[Told], generations: u64) -> usize {
-    let (mut least, mut since) = (f64::INFINITY, 0);
-    let stops = told.iter().position(|t| {
-        if t.least < least {
-            (least, since) = (t.least, t.closed);
-        }
-        t.closed - since >= generations
-    });
+    let stops = told.iter().position(|t| t.idle >= generations);
     stops.map_or(told.len(), |i| i + 1)
 }
 
@@ -274,7 +263,7 @@ fn main() -> Result<(), Box<dyn Error>> {
 
     writeln!(
         out,
-        "\n4. Closings with no smaller least; seeds 21 to 100  trials  least  found  better later"
+        "\n4. Stopped at an idle count of .. (seeds 21 to 100) trials  least  found  better later"
     )?;
     for (name, plan) in [
         ("the scheduler as an Int", whole),
@@ -284,13 +273,6 @@ fn main() -> Result<(), Box<dyn Error>> {
         for generations in [3, 5, 8, 12] {
             writeln!(out, "{}", stop_line(name, &campaigns, generations))?;
         }
-        let reached = |count: u64| percent(&campaigns, |told| told.iter().any(|t| t.idle >= count));
-        writeln!(
-            out,
-            "look's idle count reached 1 in {} of these, 3 in {}",
-            reached(1),
-            reached(3)
-        )?;
     }
     Ok(())
 }

@@ -124,7 +124,7 @@ impl Campaign {
         let least = self.history.iter().fold(f64::INFINITY, |least, t| least.min(t.value));
         let state = self.sampler.save();
         table += &format!(
-            "\ntrials: {}; least: {least:.3} ms; generations closed: {}; since one last replaced a slot: {}\n",
+            "\ntrials: {}; least: {least:.3} ms; generations closed: {}; since the least value last became smaller: {}\n",
             self.history.len(),
             look.closed,
             look.idle

@@ -36,7 +36,8 @@ pub struct Look {
     pub values: Vec<f64>,
     /// How many generations have closed.
     pub closed: u64,
-    /// How many have closed since one last replaced a slot.
+    /// How many have closed since the least of these values last became numerically smaller: a tie is no change, nor is
+    /// a zero of the other sign. 0 at the first closing.
     pub idle: u64,
 }
 
