@@ -3,8 +3,8 @@
 use mathlib.Core.Path.{_≡_, refl, ap, ap₂, _∙_}
 use mathlib.Core.Logic.{_≢_}
 use mathlib.Core.Bool.{Bool, true, false, cond}
-use Prim.Native.Nat.{ℕ}
 use mathlib.Core.List.{List, [], _∷_, map, List·Memᴰ·head, List·Memᴰ·tail}
+use Prim.Native.Nat.{ℕ}
 use lib.Ieee.{Float, nan, inf, le}
 use lib.ListN.{getD}
 use Rattle.candidates.specs.declared.Candidate.{Candidate}

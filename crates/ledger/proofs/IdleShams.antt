@@ -44,7 +44,7 @@ resetBy test s c =
     let count = cond (eqb (s .slots .closed) 0 || test (s .slots .parents) (r .state .slots .parents)) 0 (suc (s .slots .idle)) in
     setIdle r (cond (ltb (length (r .state .trials)) (length (s .trials))) count (s .slots .idle))
 
--- whether a slot holds another candidate than before; whether a slot's value is smaller than before
+-- Whether a slot was replaced, which its candidate tells (in the toy a new candidate is never the parent's); whether a slot's value is smaller than before.
 abbrev replaced : List (Parent ℕ) → List (Parent ℕ) → Bool
 replaced [] ns = false
 replaced (o ∷ os) [] = false

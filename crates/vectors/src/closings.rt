@@ -45,6 +45,25 @@ fn all_infinite(open: State) {
     figure(b"four +infinity: best 0", seen(far, infinite, 0, 1, 0));
 }
 
+// A smaller value that stays above the least, then a smaller least.
+fn fourth_and_fifth(open: State) {
+    let above = close(open, [14, 15, 16, 17], [1.5f64, 3.0, 3.0, 3.0], 18);
+    figure(
+        b"slot 0 becomes 1.5, above the least: four closed, three idle",
+        seen(above, [1.5f64, 1.0, 1.0, 3.0], 1, 4, 3),
+    );
+    let below = close(
+        trials(above, 19, 22),
+        [18, 19, 20, 21],
+        [0.5f64, 3.0, 3.0, 3.0],
+        22,
+    );
+    figure(
+        b"slot 0 becomes 0.5, the least: five closed, none idle",
+        seen(below, [0.5f64, 1.0, 1.0, 3.0], 0, 5, 0),
+    );
+}
+
 // Trial 2 ended discovery, so trials 2 to 5 have the slots of the first generation.
 pub fn closings() {
     let values = [2.0f64, 1.0, 1.0, 3.0];
@@ -65,5 +84,6 @@ pub fn closings() {
         b"equal results: the same values, three closed, two idle",
         seen(third, values, 1, 3, 2),
     );
+    fourth_and_fifth(trials(third, 15, 18));
     all_infinite(open);
 }
