@@ -102,7 +102,7 @@ impl Before {
         let smaller = least(p.values()) < least(&self.values);
         let idle = !first && !smaller;
         self.count_idle(&p, idle, c.idle, counts);
-        // The same on the log alone: one of the results is below every result counted before.
+        // The same by the counted results alone: one of these is below every one before.
         if let Some(counted) = c.counted {
             assert!(first || smaller == results.iter().any(|&result| result < counted));
             c.counted = Some(counted.min(least(&results)));
@@ -133,10 +133,10 @@ impl Before {
         counts.idle_stopped += u64::from(idle && before == u32::MAX);
         counts.idle_ends += u64::from(!idle && before > 0);
         if idle {
-            let slots = || p.values().iter().zip(&self.values);
-            let other = |now: &f64, old: &f64| now == old && now.to_bits() != old.to_bits();
-            counts.idle_smaller += u64::from(slots().any(|(now, old)| now < old));
-            counts.idle_zero += u64::from(slots().any(|(now, old)| other(now, old)));
+            let mut slots = p.values().iter().zip(&self.values);
+            let (now, old) = (p.values()[p.best()], self.values[self.best]);
+            counts.idle_smaller += u64::from(slots.any(|(now, old)| now < old));
+            counts.idle_zero += u64::from(now.is_sign_negative() && old.to_bits() == 0);
             counts.idle_infinite += u64::from(least(&self.values) == f64::INFINITY);
         }
     }

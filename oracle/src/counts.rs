@@ -118,7 +118,7 @@ counts! {
     closings_cleared = "closings: the history was cleared since the one before",
     closings_idle = "closings: idle, the least value of all slots not smaller",
     idle_smaller = "closings: idle, and a slot's value smaller",
-    idle_zero = "closings: idle, and a slot's zero of the other sign",
+    idle_zero = "closings: idle, the least value +0 before and -0 after",
     idle_infinite = "closings: idle, and every slot at +infinity before and after",
     idle_ends = "closings: the least value of all slots smaller after idle ones",
     closed_stopped = "closings: the counter of closed generations stays at its most",

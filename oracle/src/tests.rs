@@ -164,12 +164,19 @@ fn a_fresh_state_and_the_first_dimension() {
     );
 }
 
-/// Four slots, one choice: the results 5, 3, 4, 3 and then ties and larger ones; idle generations are counted.
+/// Four slots, one choice: the results 5, 3, 4, 3, then larger ones, ties, a slot that becomes smaller and stays above the
+/// least, and a smaller least: idle generations are counted, and the last is none.
 #[test]
 fn closings_and_the_counters() {
     let mut script = String::from("new 3fe0000000000000 3feccccccccccccd rand1 4 1\nsample 0 choice 3\n");
     let mut trial = 1;
-    for results in [[5.0, 3.0, 4.0, 3.0], [6.0, 3.5, 4.5, 3.5], [6.0, 3.0, 5.0, 4.0f64]] {
+    for results in [
+        [5.0, 3.0, 4.0, 3.0],
+        [6.0, 3.5, 4.5, 3.5],
+        [6.0, 3.0, 5.0, 4.0f64],
+        [4.0, 9.0, 9.0, 9.0],
+        [9.0, 9.0, 2.0, 9.0],
+    ] {
         for result in results {
             script += &format!("sample {trial} choice 3\ntell {trial} {:016x}\n", result.to_bits());
             trial += 1;
@@ -184,7 +191,9 @@ fn closings_and_the_counters() {
         [
             format!("look 1 1 0 {values}"),
             format!("look 1 2 1 {values}"),
-            format!("look 1 3 2 {values}")
+            format!("look 1 3 2 {values}"),
+            "look 1 4 3 4010000000000000 4008000000000000 4010000000000000 4008000000000000".into(),
+            "look 2 5 0 4010000000000000 4008000000000000 4000000000000000 4008000000000000".into(),
         ]
     );
 }
