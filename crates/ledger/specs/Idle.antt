@@ -11,7 +11,7 @@ use lib.Dec.{T}
 use lib.ListN.{length}
 use lib.Ieee.{Float, lt}
 
--- ---- as a number, which a log's counted results give
+-- ---- as a number, computed from the counted results
 
 -- the results that these generations counted, whichever their slots
 unfoldable pub resultsIn : List Generation → List Float
