@@ -34,7 +34,12 @@ returns c =
     let leasts = c .before .before in
     let best = leasts .before .before in
     let chosen = best .before in
-    slots-are _ _ _ _ _ _ _ (many (chosen .before)) (chosen .new-parents .ensures) _ _ _ _ _ (leasts .before .least-value .ensures) (leasts .least-value2 .ensures) (best .best-slot .ensures) (c .before .up-one .ensures) (c .new-idle .ensures)
+    slots-are _ _ _ _ _ _ _ (many (chosen .before)) (chosen .new-parents .ensures) _ _ _ _ _
+    (leasts .before .least-value .ensures)
+    (leasts .least-value2 .ensures)
+    (best .best-slot .ensures)
+    (c .before .up-one .ensures)
+    (c .new-idle .ensures)
 
 pub settle-spec : {M : Type 1} → statement M
 settle-spec =
