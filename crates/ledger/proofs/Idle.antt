@@ -6,10 +6,10 @@ use Rattle.ledger.specs.State.{cap, values}
 use Rattle.ledger.specs.Closing.{bestOf, leastOf, up, becameSmaller, select}
 use Rattle.ledger.specs.Ledger.{Generation, resultIn}
 use Rattle.ledger.specs.Idle.{resultsIn, lowers, idleSince, idleOn}
-use Rattle.ledger.proofs.Order.{or-l, or-r, lt→le, le-refl, le-trans, le-lt-trans, lt-le-trans, lt-irrefl, not-le→lt}
+use Rattle.ledger.proofs.Tests.{or-l, or-r, both-ways, all-split, all-join}
+use Rattle.ledger.proofs.Order.{lt→le, le-refl, le-trans, le-lt-trans, lt-le-trans, lt-irrefl, not-le→lt}
 use Rattle.ledger.proofs.Lists.{none≢some, some-inj, T→true, true→T, at-below, at-mem, mem-at, some-at, getD-at, all-at, mem-old, mem-later, mem-cases, length-map, map-at, at-map, all-nil}
 use Rattle.ledger.proofs.Slots.{Selected, selected, best-first}
-use Rattle.ledger.proofs.SoundTest.{all-split, all-join}
 use mathlib.Core.Path.{_≡_, refl, sym, ap, subst, _∙_}
 use mathlib.Core.Logic.{_⊎_, inl, inr, _≢_}
 use mathlib.Core.Bool.{Bool, true, false, _||_, cond}
@@ -18,7 +18,7 @@ use mathlib.Core.Option.{some}
 use Prim.Native.Nat.{ℕ, zero, suc, _≤_, _<_, min}
 use native.Mathlib.Omega.{arith}
 use lib.Dec.{T}
-use lib.ListN.{length, getElem?, getD}
+use lib.ListN.{length, getElem?}
 use lib.Ieee.{Float, nan, inf, le, lt}
 
 -- ---- all that was counted
@@ -75,12 +75,6 @@ unfolding idleSince
 idle-snoc gs g = ap idleSince (reverse-append gs (g ∷ []))
 
 -- ---- the least of all slots
-
-both-ways : (a b : Bool) → (T a → T b) → (T b → T a) → a ≡ b
-both-ways true true f g = refl
-both-ways true false f g = absurd (f tt)
-both-ways false true f g = absurd (g tt)
-both-ways false false f g = refl
 
 module _ (K : Kernel) where
   open Kernel K using (Candidate)

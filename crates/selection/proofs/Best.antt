@@ -14,6 +14,8 @@ use Rattle.evolution.specs.declared.Member.{Member}
 use Rattle.selection.specs.Best.{values, bestFrom, bestSlot, leastValue}
 use Rattle.ledger.specs.Words.{All}
 use Rattle.ledger.specs.Closing.{atMost, bestOf}
+use Rattle.ledger.proofs.Lists.{T→true, true→T}
+use Rattle.ledger.proofs.Tests.{and-split, and-join}
 use Rattle.ledger.proofs.Order.{le-trans, le-lt-trans, lt-irrefl, not-le→lt}
 
 -- no value is NaN
@@ -26,24 +28,9 @@ head-number v vs h = h v (List·Memᴰ·head refl)
 rest-numbers : (v : Float) (vs : List Float) → Numbers (v ∷ vs) → Numbers vs
 rest-numbers v vs h a m = h a (List·Memᴰ·tail m)
 
-and-i : (a b : Bool) → T a → T b → T (a && b)
-and-i true b s t = t
-
-and-l : (a b : Bool) → T (a && b) → T a
-and-l true b t = tt
-
-and-r : (a b : Bool) → T (a && b) → T b
-and-r true b t = t
-
-true-of : (t : Bool) → T t → t ≡ true
-true-of true h = refl
-
 false-of : (t : Bool) → (T t → ⊥) → t ≡ false
 false-of true h = absurd (h tt)
 false-of false h = refl
-
-of-true : (t : Bool) → t ≡ true → T t
-of-true t e = subst T (sym e) tt
 
 -- strictly less: not at most
 lt-not-le : (v w : Float) → T (lt w v) → T (le v w) → ⊥
@@ -53,7 +40,7 @@ lt-not-le v w l h = lt-irrefl v (le-lt-trans v w v h l)
 down-to : (v w : Float) (ws : List Float) → T (le v w) → T (atMost w ws) → T (atMost v ws)
 unfolding atMost
 down-to v w [] l h = tt
-down-to v w (u ∷ us) l h = and-i (le v u) (atMost v us) (le-trans v w u l (and-l (le w u) (atMost w us) h)) (down-to v w us l (and-r (le w u) (atMost w us) h))
+down-to v w (u ∷ us) l h = and-join (le v u) (atMost v us) (le-trans v w u l (and-split (le w u) (atMost w us) h .0)) (down-to v w us l (and-split (le w u) (atMost w us) h .1))
 
 -- v, of slot b, is the least so far; from slot i on the values are ws
 run : (ws : List Float) (i : ℕ) (v : Float) (b : ℕ) → v ≢ nan → Numbers ws → bestFrom ws i v b ≡ cond (atMost v ws) b (i + bestOf ws)
@@ -64,12 +51,12 @@ run (w ∷ ws) i v b p q = go (lt w v) (le v w) (atMost v ws) (atMost w ws) refl
     go : (t l a c : Bool) → lt w v ≡ t → le v w ≡ l → atMost v ws ≡ a → atMost w ws ≡ c
         → bestFrom ws (i + 1) w i ≡ cond (atMost w ws) i (i + 1 + bestOf ws) → bestFrom ws (i + 1) v b ≡ cond (atMost v ws) b (i + 1 + bestOf ws)
         → cond t (bestFrom ws (i + 1) w i) (bestFrom ws (i + 1) v b) ≡ cond (l && a) b (i + cond c zero (suc (bestOf ws)))
-    go true true a c e f g h m n = absurd (lt-not-le v w (of-true (lt w v) e) (of-true (le v w) f))
+    go true true a c e f g h m n = absurd (lt-not-le v w (true→T (lt w v) e) (true→T (le v w) f))
     go true false a true e f g h m n = m ∙ rw h (omega arith)
     go true false a false e f g h m n = m ∙ rw h (omega arith)
     go false false a c e f g h m n = absurd (subst T e (not-le→lt v w p (head-number w ws q) f))
     go false true true c e f g h m n = n ∙ rw g
-    go false true false true e f g h m n = absurd (subst T g (down-to v w ws (of-true (le v w) f) (of-true (atMost w ws) h)))
+    go false true false true e f g h m n = absurd (subst T g (down-to v w ws (true→T (le v w) f) (true→T (atMost w ws) h)))
     go false true false false e f g h m n = n ∙ rw g (omega arith)
 
 -- +infinity is at least every number
@@ -83,7 +70,7 @@ top (fin s m e) p = tt
 first : (ws : List Float) → Numbers ws → T (atMost (inf false) ws) → bestOf ws ≡ 0
 unfolding bestOf atMost
 first [] r h = refl
-first (v ∷ vs) r h = rw (true-of (atMost v vs) (down-to v (inf false) vs (top v (head-number v vs r)) (and-r (le (inf false) v) (atMost (inf false) vs) h)))
+first (v ∷ vs) r h = rw (T→true (atMost v vs) (down-to v (inf false) vs (top v (head-number v vs r)) (and-split (le (inf false) v) (atMost (inf false) vs) h .1)))
 
 pub best-is : (vs : List Float) → Numbers vs → bestSlot vs ≡ bestOf vs
 unfolding bestSlot
