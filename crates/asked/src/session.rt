@@ -22,7 +22,7 @@ use slots::{LookAnswer, Looked};
 use state::State;
 
 // What is kept from question to question, beside the state and the arrays.
-#[derive(Drop)]
+#[derive(Clone, Copy)]
 pub struct Run {
     pub cursor: Cursor,
     // The entries of the history.
@@ -36,7 +36,7 @@ pub struct Run {
 }
 
 // The state after a line, and the run.
-#[derive(Drop)]
+#[derive(Clone, Copy)]
 pub struct Step {
     pub state: State,
     pub run: Run,

@@ -12,7 +12,7 @@ use state::{FirstTrial, State};
 
 // Discovery has ended: the state, and the generator after its first candidates. Where `ok` is false, refusal 11 is for the
 // call and the state is as it came in.
-#[derive(Drop)]
+#[derive(Clone, Copy)]
 pub struct Begun {
     pub ok: bool,
     pub state: State,

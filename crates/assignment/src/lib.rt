@@ -1,5 +1,7 @@
 // Assignment, on the sampler's own state (sampler/de.rs: `sample_active` after its closing, `assign_candidate`); discovery is
 // in `discovery`.
+#![tactic(auto)]
+
 pub mod discovery;
 pub mod places;
 
@@ -16,14 +18,14 @@ use state::sound::candidate_count;
 use state::{State, TrialProgress};
 
 // A setting, and the generator after it.
-#[derive(Drop)]
+#[derive(Clone, Copy)]
 pub struct DrawnSetting {
     pub setting: ParamValue,
     pub after: Gen,
 }
 
 // A trial's candidate, and the generator after it; `ok` is false where an entry of a new one is NaN.
-#[derive(Drop)]
+#[derive(Clone, Copy)]
 pub struct Assigned {
     pub ok: bool,
     pub candidate: Candidate,
@@ -31,7 +33,7 @@ pub struct Assigned {
 }
 
 // What an accepted call makes. Where `ok` is false, refusal 11 is for the call and the state is as it came in.
-#[derive(Drop)]
+#[derive(Clone, Copy)]
 pub struct Accepted {
     pub ok: bool,
     pub setting: ParamValue,

@@ -9,7 +9,7 @@ use state::State;
 use state::lists::trial_numbers;
 
 // A campaign with every slot's trial open: the trial that closes the generation, and the least time of a closing so far.
-#[derive(Drop)]
+#[derive(Clone, Copy)]
 pub struct Campaign {
     pub state: State,
     pub next: u64,

@@ -1,4 +1,6 @@
 // Times the sampler: `bench run` prints ratios and times. Without that word it measures nothing: no test depends on a time.
+#![tactic(auto)]
+
 mod campaign;
 mod clock;
 mod closings;

@@ -8,7 +8,7 @@ use crate::work::{Work, best};
 use state::State;
 
 // Hundredths of a nanosecond.
-#[derive(Drop)]
+#[derive(Clone, Copy)]
 struct Figures {
     copy: u64,
     sample: u64,

@@ -3,7 +3,7 @@ use crate::clock::{now, since};
 use crate::work::least;
 
 // The time of a pass over the list, and the sum of what was rounded: what is summed, the compiler cannot leave out.
-#[derive(Drop)]
+#[derive(Clone, Copy)]
 pub struct Summed {
     pub ns: u64,
     pub sum: f64,

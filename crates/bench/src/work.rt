@@ -6,14 +6,14 @@ use crate::clock::{now, since};
 use state::State;
 
 // Calls: one each of the trials from 2 on.
-#[derive(Drop)]
+#[derive(Clone, Copy)]
 pub enum Work {
     Copies,
     Calls,
 }
 
 // The time that work took, and what it left: the generator's word, and how many trials are open.
-#[derive(Drop)]
+#[derive(Clone, Copy)]
 pub struct Timed {
     pub ns: u64,
     pub word: u64,

@@ -1,5 +1,7 @@
 // Candidates, the search space that they are drawn from, and random candidates (sampler/de.rs: "Internal types",
 // "Helpers", `generate_initial_population`).
+#![tactic(auto)]
+
 ghost use Rattle.std.specs.Prelude.{◌≡◌, ◌≤◌, ◌<◌, ◌^◌, take};
 ghost use Rattle.candidates.specs.Candidate.{blank_candidate, entry_of, choice_of, continuous_place};
 ghost use Rattle.candidates.specs.Space.{choice_counts, FewChoices, spans_of, space_of};
@@ -13,14 +15,14 @@ use rng_util::Gen;
 
 // Entries by the place among the continuous dimensions, choices by the place among all; unused places are 0.
 #[repr(C)]
-#[derive(Drop)]
+#[derive(Clone, Copy)]
 pub struct Candidate {
     pub x: [f64; 16],
     pub choices: [u16; 16],
 }
 
 // The bounds of the continuous dimensions, in order.
-#[derive(Drop)]
+#[derive(Clone, Copy)]
 pub struct Spans {
     pub bounds: [Bounds; 16],
     pub n: usize,
@@ -28,7 +30,7 @@ pub struct Spans {
 
 // What the draws read of the dimensions, made once: the bounds of the n continuous ones in order, and the number of
 // choices of each dimension, 0 for a continuous one.
-#[derive(Drop)]
+#[derive(Clone, Copy)]
 pub struct Space {
     pub bounds: [Bounds; 16],
     pub n: usize,
@@ -37,37 +39,37 @@ pub struct Space {
 }
 
 // What was drawn, and the generator after it.
-#[derive(Drop)]
+#[derive(Clone, Copy)]
 pub struct DrawnEntry {
     pub entry: f64,
     pub after: Gen,
 }
 
-#[derive(Drop)]
+#[derive(Clone, Copy)]
 pub struct DrawnEntries {
     pub x: [f64; 16],
     pub after: Gen,
 }
 
-#[derive(Drop)]
+#[derive(Clone, Copy)]
 pub struct DrawnChoice {
     pub choice: u16,
     pub after: Gen,
 }
 
-#[derive(Drop)]
+#[derive(Clone, Copy)]
 pub struct DrawnChoices {
     pub choices: [u16; 16],
     pub after: Gen,
 }
 
-#[derive(Drop)]
+#[derive(Clone, Copy)]
 pub struct DrawnCandidate {
     pub candidate: Candidate,
     pub after: Gen,
 }
 
-#[derive(Drop)]
+#[derive(Clone, Copy)]
 pub struct DrawnCandidates {
     pub candidates: [Candidate; 224],
     pub after: Gen,

@@ -1,4 +1,6 @@
 // Step 6: a generation closes (sampler/de.rs, `maybe_update_generation`).
+#![tactic(auto)]
+
 ghost use Rattle.std.specs.Prelude.{◌≡◌, ◌≤◌, take};
 ghost use Rattle.ledger.specs.Closing.{up, new_idle};
 ghost use Rattle.selection.specs.Records.{members_rec};
@@ -10,7 +12,7 @@ use rng_util::Gen;
 use state::{State, TrialProgress};
 
 // After a closing: the state, and the generator after the draws. Where `ok` is false, refusal 11, both are as they came.
-#[derive(Drop)]
+#[derive(Clone, Copy)]
 pub struct Closed {
     pub ok: bool,
     pub state: State,
@@ -18,7 +20,7 @@ pub struct Closed {
 }
 
 // What the closings have made.
-#[derive(Drop)]
+#[derive(Clone, Copy)]
 pub struct Slots {
     pub parents: [Member; 160],
     pub best: usize,

@@ -1,4 +1,6 @@
 // Between settings and internal doubles (sampler/common.rs).
+#![tactic(auto)]
+
 mod float;
 mod int;
 pub mod places;
@@ -13,21 +15,21 @@ ghost use Rattle.common.specs.Random.{random_value, random_setting, random_rec};
 use distribution::{Distribution, IntDistribution, ParamValue, Refusal, Verdict};
 use rng_util::Gen;
 
-#[derive(Drop)]
+#[derive(Clone, Copy)]
 pub struct Bounds {
     pub low: f64,
     pub high: f64,
 }
 
 // What `to_internal` answers.
-#[derive(Drop)]
+#[derive(Clone, Copy)]
 pub enum Internal {
     Value(f64),
     Refused(Refusal),
 }
 
 // A random setting, and the generator after its one draw.
-#[derive(Drop)]
+#[derive(Clone, Copy)]
 pub struct RandomSetting {
     pub setting: ParamValue,
     pub after: Gen,

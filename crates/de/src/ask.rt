@@ -6,7 +6,7 @@ use history::Gathered;
 use state::{State, TrialProgress};
 
 // The scan's start, and between which numbers all wanted ones lie.
-#[derive(Drop)]
+#[derive(Clone, Copy)]
 pub struct Asked {
     pub lo: u64,
     pub hi: u64,

@@ -8,13 +8,13 @@ use evolution::{DEStrategy, PopulationSize, Setup};
 use selection::blank_member;
 use state::{FirstTrial, State, TrialProgress};
 
-#[derive(Drop)]
+#[derive(Clone, Copy)]
 pub struct DESamplerBuilder {
     pub setup: Setup,
 }
 
 // A refusal hands out no state: the accepted set-up is what a state is made of.
-#[derive(Drop)]
+#[derive(Clone, Copy)]
 pub enum Built {
     Accepted(Setup),
     Refused(Refusal),

@@ -1,4 +1,6 @@
 // The differential evolution sampler (sampler/de.rs): set-up and sample.
+#![tactic(auto)]
+
 pub mod ask;
 pub mod build;
 pub mod ceiling;
@@ -9,14 +11,14 @@ use distribution::{ParamValue, Refusal};
 use state::State;
 
 // A setting, or a refusal: document 01's number of each is `refusal_number`.
-#[derive(Drop)]
+#[derive(Clone, Copy)]
 pub enum Answer {
     Setting(ParamValue),
     Refused(Refusal),
 }
 
 // A refusal has no setting, counts zero draws and hands back the state that came in.
-#[derive(Drop)]
+#[derive(Clone, Copy)]
 pub struct Sampled {
     pub answer: Answer,
     pub state: State,

@@ -17,7 +17,7 @@ use state::sound::candidate_count;
 use state::{State, TrialProgress};
 
 // Whether a call is plain, and its trial's place. Of the refusals 4 to 10 the last two are for no trial that has a candidate.
-#[derive(Drop)]
+#[derive(Clone, Copy)]
 pub struct PlainPlace {
     pub plain: bool,
     pub place: usize,

@@ -23,6 +23,7 @@ holds e = subst T (sym e) tt
 
 pub held : (b : Bool) → T b → b ≡ true
 held true t = refl
+held false t = elim t [ ]
 
 pub neither : (a b : Bool) → (a || b) ≡ false → (a ≡ false) × (b ≡ false)
 neither true b e = absurd (true≢false e)

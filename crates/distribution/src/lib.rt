@@ -1,24 +1,26 @@
 // What is tuned: distributions, dimensions and settings (distribution.rs, param.rs).
+#![tactic(auto)]
+
 ghost use Rattle.std.specs.Prelude.{◌≡◌};
 ghost use Rattle.distribution.specs.Dims.{continuous, choices};
 
 pub mod validate;
 
 // `Option<f64>` of the Rust.
-#[derive(Drop)]
+#[derive(Clone, Copy)]
 pub enum FloatStep {
     Unset,
     By(f64),
 }
 
 // `Option<i64>` of the Rust.
-#[derive(Drop)]
+#[derive(Clone, Copy)]
 pub enum IntStep {
     Unset,
     By(i64),
 }
 
-#[derive(Drop)]
+#[derive(Clone, Copy)]
 pub struct FloatDistribution {
     pub low: f64,
     pub high: f64,
@@ -26,7 +28,7 @@ pub struct FloatDistribution {
     pub step: FloatStep,
 }
 
-#[derive(Drop)]
+#[derive(Clone, Copy)]
 pub struct IntDistribution {
     pub low: i64,
     pub high: i64,
@@ -34,12 +36,12 @@ pub struct IntDistribution {
     pub step: IntStep,
 }
 
-#[derive(Drop)]
+#[derive(Clone, Copy)]
 pub struct CategoricalDistribution {
     pub n_choices: u64,
 }
 
-#[derive(Drop)]
+#[derive(Clone, Copy)]
 pub enum Distribution {
     Float(FloatDistribution),
     Int(IntDistribution),
@@ -47,7 +49,7 @@ pub enum Distribution {
 }
 
 // A setting: a double, a signed whole number, or a choice index from 0.
-#[derive(Drop)]
+#[derive(Clone, Copy)]
 pub enum ParamValue {
     Float(f64),
     Int(i64),
@@ -55,21 +57,21 @@ pub enum ParamValue {
 }
 
 // A discovered dimension keeps its distribution inside it.
-#[derive(Drop)]
+#[derive(Clone, Copy)]
 pub struct DimensionInfo {
     pub distribution: Distribution,
 }
 
 // The place among all dimensions.
-#[derive(Drop)]
+#[derive(Clone, Copy)]
 pub struct DimIdx(pub usize);
 
 // The place among the continuous dimensions: a vector has entries for these only.
-#[derive(Drop)]
+#[derive(Clone, Copy)]
 pub struct Ci(pub usize);
 
 // The refusals, in the order of their numbers 0 to 11.
-#[derive(Drop)]
+#[derive(Clone, Copy)]
 pub enum Refusal {
     StateNotSound,
     MutationFactor,
@@ -86,7 +88,7 @@ pub enum Refusal {
 }
 
 // What `validate` says of a distribution.
-#[derive(Drop)]
+#[derive(Clone, Copy)]
 pub enum Verdict {
     Valid,
     Refused(Refusal),

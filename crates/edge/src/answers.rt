@@ -11,7 +11,7 @@ use distribution::{Distribution, ParamValue, Refusal};
 use state::State;
 
 #[repr(C)]
-#[derive(Drop)]
+#[derive(Clone, Copy)]
 pub struct DeCall {
     pub trial: u64,
     pub distribution: DeDistribution,
@@ -20,7 +20,7 @@ pub struct DeCall {
 // kind: 0 refused, with document 01's number; 1 float, 2 int, 3 choice; 4 a number of the call or set-up names no case; 5 a
 // state is made; 6 there is no such slot or dimension.
 #[repr(C)]
-#[derive(Drop)]
+#[derive(Clone, Copy)]
 pub struct DeAnswer {
     pub kind: u64,
     pub refusal: u64,
@@ -31,7 +31,7 @@ pub struct DeAnswer {
 }
 
 // What `sample` is asked, and whether the numbers of the call and of the state name cases.
-#[derive(Drop)]
+#[derive(Clone, Copy)]
 pub struct Question {
     pub known_call: bool,
     pub known_state: bool,
@@ -40,7 +40,7 @@ pub struct Question {
 }
 
 // An answer, and whether the state after it is to be stored.
-#[derive(Drop)]
+#[derive(Clone, Copy)]
 pub struct Settled {
     pub stores: bool,
     pub answer: DeAnswer,

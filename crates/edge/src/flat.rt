@@ -13,7 +13,7 @@ use state::{FirstTrial, State, TrialProgress};
 
 // strategy: 0 rand1, 1 best1, 2 current-to-best1. sized: 0 no size is set, 1 population_size is.
 #[repr(C)]
-#[derive(Drop)]
+#[derive(Clone, Copy)]
 pub struct DeSetup {
     pub mutation_factor: f64,
     pub crossover_rate: f64,
@@ -25,7 +25,7 @@ pub struct DeSetup {
 
 // kind: 1 float, 2 int, 3 choice. log_scale and stepped: 0 or 1. Fields that the kind does not use are not read.
 #[repr(C)]
-#[derive(Drop)]
+#[derive(Clone, Copy)]
 pub struct DeDistribution {
     pub kind: u64,
     pub low: f64,
@@ -41,7 +41,7 @@ pub struct DeDistribution {
 
 // `State` field by field. named: 0 no first trial yet, 1 `first` is its number. discovered: 0 or 1.
 #[repr(C)]
-#[derive(Drop)]
+#[derive(Clone, Copy)]
 pub struct DeState {
     pub setup: DeSetup,
     pub named: u64,

@@ -10,7 +10,7 @@ use distribution::ParamValue;
 
 // kind: 1 real, 2 whole, 3 choice.
 #[repr(C)]
-#[derive(Drop)]
+#[derive(Clone, Copy)]
 pub struct DeSetting {
     pub kind: u64,
     pub real: f64,
@@ -20,7 +20,7 @@ pub struct DeSetting {
 
 // kind: 0 refused, with document 01's number; 1 value; 4 a number names no case.
 #[repr(C)]
-#[derive(Drop)]
+#[derive(Clone, Copy)]
 pub struct DeInternal {
     pub kind: u64,
     pub refusal: u64,

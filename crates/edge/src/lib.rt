@@ -1,5 +1,7 @@
 // The edge in numbers: the structs that cross to C and Rust callers, the state, set-up and calls that they stand for, and the answers
 // to them. No enum can cross. Every struct is laid out as C lays it out.
+#![tactic(auto)]
+
 pub mod answers;
 pub mod build;
 pub mod flat;

@@ -9,7 +9,7 @@ use slots::{LookAnswer, Looked, look};
 
 // kind: 0 refused, with document 01's number; 1 nothing yet; 2 best is the best slot, and the first n values are the slots'.
 #[repr(C)]
-#[derive(Drop)]
+#[derive(Clone, Copy)]
 pub struct DeLook {
     pub kind: u64,
     pub refusal: u64,
@@ -21,7 +21,7 @@ pub struct DeLook {
 }
 
 // The answer of a look, apart from the counts and values.
-#[derive(Drop)]
+#[derive(Clone, Copy)]
 pub struct Head {
     pub kind: u64,
     pub refusal: u64,

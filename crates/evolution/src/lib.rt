@@ -1,4 +1,6 @@
 // Differential evolution: the trial vectors of a later generation (sampler/de.rs, "DE algorithm").
+#![tactic(auto)]
+
 pub mod mutant;
 pub mod select;
 
@@ -13,7 +15,7 @@ use candidates::{Candidate, DrawnCandidate, DrawnCandidates, DrawnEntries, Drawn
 use common::Bounds;
 use rng_util::Gen;
 
-#[derive(Drop)]
+#[derive(Clone, Copy)]
 pub enum DEStrategy {
     Rand1,
     Best1,
@@ -21,14 +23,14 @@ pub enum DEStrategy {
 }
 
 // `Option<usize>` of the Rust.
-#[derive(Drop)]
+#[derive(Clone, Copy)]
 pub enum PopulationSize {
     Unset,
     Of(u64),
 }
 
 // The seed is the generator's first word.
-#[derive(Drop)]
+#[derive(Clone, Copy)]
 pub struct Setup {
     pub mutation_factor: f64,
     pub crossover_rate: f64,
@@ -39,20 +41,20 @@ pub struct Setup {
 
 // What a slot holds: a parent, and the result that it was counted with.
 #[repr(C)]
-#[derive(Drop)]
+#[derive(Clone, Copy)]
 pub struct Member {
     pub candidate: Candidate,
     pub value: f64,
 }
 
 // What was drawn, and the generator after it.
-#[derive(Drop)]
+#[derive(Clone, Copy)]
 pub struct DrawnIndex {
     pub index: usize,
     pub after: Gen,
 }
 
-#[derive(Drop)]
+#[derive(Clone, Copy)]
 pub struct Indices {
     pub r1: usize,
     pub r2: usize,

@@ -1,6 +1,8 @@
 // The sampler for callers in C and Rust: `rt staticlib exports` writes the library. The structs that cross are those of `edge` and `files`.
 // A call or set-up with a number that names no case answers kind 4; a state with one is not sound, and that is refusal 0, or 13 where
 // it is to be saved.
+#![tactic(auto)]
+
 ghost use Rattle.std.specs.Prelude.{◌≡◌, length};
 ghost use Rattle.exports.specs.Calls.{new_answer, new_state, sample_answer, sample_state, restore_answer, restore_state};
 ghost use Rattle.edge.specs.Look.{look_at};

@@ -10,7 +10,7 @@ use saved::{FileRefusal, RestoreAnswer, Restored, SaveAnswer, restore, save};
 
 // kind: 0 refused, by check 12 or 13; 1 saved, in a file of `length` bytes; 2 restored. Fields that a kind does not use are 0.
 #[repr(C)]
-#[derive(Drop)]
+#[derive(Clone, Copy)]
 pub struct DeFile {
     pub kind: u64,
     pub refusal: u64,
@@ -18,7 +18,7 @@ pub struct DeFile {
 }
 
 // The answer to a restore call, and whether the state that was read is to be stored.
-#[derive(Drop)]
+#[derive(Clone, Copy)]
 pub struct SettledFile {
     pub stores: bool,
     pub answer: DeFile,

@@ -8,7 +8,7 @@ use metrics::{ExportRefusal, ReadAnswer};
 // kind: 0 refused, by check 14 with the malformed line's number, or by 15; 1 read, `count` entries. Fields that a kind does
 // not use are 0.
 #[repr(C)]
-#[derive(Drop)]
+#[derive(Clone, Copy)]
 pub struct DeRead {
     pub kind: u64,
     pub refusal: u64,

@@ -1,18 +1,20 @@
 // The history: a lent list of completed trials, read and never written (CompletedTrial of sampler/mod.rs).
 // A call says which trial numbers it wants; one scan finds them and says whether refusal 8 applies.
+#![tactic(auto)]
+
 ghost use Rattle.std.specs.Prelude.{◌≡◌};
 ghost use Rattle.history.specs.Entry.{is_bad, counted_value};
 ghost use Rattle.history.specs.Scan.{places, absorbed, may_matter, gathered, trials_of};
 
 #[repr(C)]
-#[derive(Drop)]
+#[derive(Clone, Copy)]
 pub struct CompletedTrial {
     pub number: u64,
     pub value: f64,
 }
 
 // What is wanted and what is found so far: the first n of the numbers are wanted; `nan` says that refusal 8 applies.
-#[derive(Drop)]
+#[derive(Clone, Copy)]
 pub struct Gathered {
     pub nan: bool,
     pub n: usize,

@@ -22,7 +22,7 @@ use selection::blank_member;
 use state::TrialProgress;
 
 #[repr(C)]
-#[derive(Drop)]
+#[derive(Clone, Copy)]
 pub struct DeMarks {
     pub setup: DeSetup,
     pub after_setup: u64,

@@ -10,6 +10,7 @@ use lib.Dec.{T, eqb, eqb_refl}
 
 pub or_l : (a b : Bool) → T a → T (a || b)
 or_l true b t = tt
+or_l false b t = elim t [ ]
 
 pub or_r : (a b : Bool) → T b → T (a || b)
 or_r true b t = tt
@@ -21,9 +22,11 @@ or_cases false b t = inr t
 
 pub and_split : (a b : Bool) → T (a && b) → T a × T b
 and_split true b t = (tt, t)
+and_split false b t = elim t [ ]
 
 pub and-join : (a b : Bool) → T a → T b → T (a && b)
 and-join true b s t = t
+and-join false b s t = elim s [ ]
 
 -- two tests that pass together are one
 pub both_ways : (a b : Bool) → (T a → T b) → (T b → T a) → a ≡ b
@@ -39,6 +42,7 @@ pub all_split : {A : Type 0} (p : A → Bool) (xs : List A) → T (all p xs) →
 unfolding all
 all_split p (x ∷ xs) t a (Memᴰ.head e) = subst (λ y. T (p y)) (sym e) (and_split (p x) (all p xs) t).0
 all_split p (x ∷ xs) t a (Memᴰ.tail m) = all_split p xs (and_split (p x) (all p xs) t).1 a m
+all_split {A = A} p [] t a x'' = elim x'' [ ]
 
 pub all_join : {A : Type 0} (p : A → Bool) (xs : List A) → All (λ a. T (p a)) xs → T (all p xs)
 unfolding all

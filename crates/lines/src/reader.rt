@@ -4,14 +4,14 @@ ghost use Rattle.lines.specs.Reading.{ShortLine};
 use libc::STDIN_FILENO;
 
 // The bytes of the input buffer from `at` to `end` are still to be taken; `line` lines have begun.
-#[derive(Drop)]
+#[derive(Clone, Copy)]
 pub struct Cursor {
     pub at: usize,
     pub end: usize,
     pub line: u64,
 }
 
-#[derive(Drop)]
+#[derive(Clone, Copy)]
 pub enum Byte {
     Is(u8),
     // The input has ended.
@@ -20,13 +20,13 @@ pub enum Byte {
     Failed,
 }
 
-#[derive(Drop)]
+#[derive(Clone, Copy)]
 pub struct Taken {
     pub byte: Byte,
     pub cursor: Cursor,
 }
 
-#[derive(Drop)]
+#[derive(Clone, Copy)]
 pub enum Line {
     // A line of so many bytes, its line feed left out.
     Whole(usize),
@@ -38,7 +38,7 @@ pub enum Line {
     Failed,
 }
 
-#[derive(Drop)]
+#[derive(Clone, Copy)]
 pub struct Fetched {
     pub line: Line,
     pub cursor: Cursor,

@@ -12,7 +12,7 @@ use crate::reader::{Cursor, Line, next_line};
 use script::Command;
 
 // What a line comes to.
-#[derive(Drop)]
+#[derive(Clone, Copy)]
 pub enum Heard {
     // The history has so many entries now, the kept file so many bytes, and nothing is asked.
     Quiet { count: usize, length: usize },
@@ -25,7 +25,7 @@ pub enum Heard {
 }
 
 // What is asked, where the reader stands after it, how many entries the history has, and how many bytes the kept file.
-#[derive(Drop)]
+#[derive(Clone, Copy)]
 pub struct Asked {
     pub heard: Heard,
     pub cursor: Cursor,

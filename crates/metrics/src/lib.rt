@@ -1,5 +1,7 @@
 // History from the metrics export (document 02, W3): text lines, each a trial number, a comma, a value and a line feed.
 // Every line is read before anything is written, so that a refusal leaves the lent history as it was.
+#![tactic(auto)]
+
 ghost use Rattle.std.specs.Prelude.{min, ◌≡◌, length};
 ghost use Rattle.metrics.specs.Export.{export_of, answer_of, left_in, entry_of, number_of, value_of};
 ghost use Rattle.metrics.specs.Steps.{step_of, counted};
@@ -12,21 +14,21 @@ mod line;
 mod value;
 
 // 14: the first malformed line, with its number from 1. 15: the lent history has fewer places than the export has entries.
-#[derive(Drop)]
+#[derive(Clone, Copy)]
 pub enum ExportRefusal {
     MalformedLine(usize),
     ShortHistory,
 }
 
 // How many entries were read, or why nothing was written.
-#[derive(Drop)]
+#[derive(Clone, Copy)]
 pub enum ReadAnswer {
     Count(usize),
     Refused(ExportRefusal),
 }
 
 // An entry, and where the next line starts.
-#[derive(Drop)]
+#[derive(Clone, Copy)]
 pub struct Step {
     pub entry: CompletedTrial,
     pub next: usize,

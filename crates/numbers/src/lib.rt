@@ -1,25 +1,27 @@
 // Numbers as campaign scripts and metrics exports write them. Each reader takes any bytes, and says so where they are no such number.
+#![tactic(auto)]
+
 ghost use Rattle.std.specs.Prelude.{◌<◌, ◌≡◌};
 ghost use Rattle.std.specs.Float.Ieee.{to_bits};
 ghost use Rattle.std.specs.Float.{binary64};
 ghost use Rattle.numbers.specs.Numbers.{digit_of, number_of, whole_of, pattern_of, real_of, double_of, plain, negated, int_of};
 
 // A word read as an unsigned number of 64 bits.
-#[derive(Drop)]
+#[derive(Clone, Copy)]
 pub enum WholeWord {
     Is(u64),
     Not,
 }
 
 // A word read as a signed number of 64 bits.
-#[derive(Drop)]
+#[derive(Clone, Copy)]
 pub enum IntWord {
     Is(i64),
     Not,
 }
 
 // A word read as a double.
-#[derive(Drop)]
+#[derive(Clone, Copy)]
 pub enum DoubleWord {
     Is(f64),
     Not,

@@ -1,4 +1,6 @@
 // The state that six tables of words stand for, whether sound or not.
+#![tactic(auto)]
+
 ghost use Rattle.std.specs.Prelude.{◌≡◌, ◌+◌, ◌≤◌, min, length, take};
 ghost use Rattle.rng_util.specs.Many.{pad_to, listed};
 ghost use Rattle.candidates.specs.Candidate.{blank_candidate};

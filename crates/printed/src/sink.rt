@@ -4,7 +4,7 @@ ghost use Rattle.std.specs.Prelude.{◌≡◌, nat_abs};
 use libc::STDOUT_FILENO;
 
 // The first `at` bytes of the buffer wait; `ok` is false once a write has failed, and nothing is written from then on.
-#[derive(Drop)]
+#[derive(Clone, Copy)]
 pub struct Sink {
     pub at: usize,
     pub ok: bool,

@@ -10,7 +10,7 @@ use state::sound::{candidate_count, parent_count};
 use state::{FirstTrial, State, TrialProgress};
 
 // What a row reads of the dimensions: how many there are, how many are continuous, and which are not.
-#[derive(Drop)]
+#[derive(Clone, Copy)]
 pub struct Shape {
     pub n_dims: usize,
     pub n_continuous: usize,

@@ -1,6 +1,8 @@
 // Runs a campaign script: reads it from standard input, and writes a line for each line that asks something.
 // A program has no exit status of its own here: a malformed script shows in the last line, and a read or a write that
 // failed on standard error.
+#![tactic(auto)]
+
 use asked::session::{Run, Step, obey};
 use de::build::DESamplerBuilder;
 use libc::STDERR_FILENO;

@@ -1,25 +1,27 @@
 // The generator (SplitMix64, the stand-in for fastrand) and what is drawn from it: rng_util.rs and the fastrand calls
 // that the sampler makes. One output is one draw.
+#![tactic(auto)]
+
 ghost use Rattle.std.specs.Prelude.{◌≡◌, ◌+◌, ◌*◌, ◌%◌, ◌^◌, ◌<◌, ◌≤◌, ◌≤ℤ◌, unsigned_abs};
 ghost use Rattle.rng_util.specs.SplitMix.{drawn, mixed};
 ghost use Rattle.rng_util.specs.Draws.{unit_of, usize_of, i64_of, range_of};
 ghost use Rattle.rng_util.specs.Gen.{draw_of};
 
 // The new word, and the output that belongs to it.
-#[derive(Drop)]
+#[derive(Clone, Copy)]
 pub struct Stepped {
     pub word: u64,
     pub output: u64,
 }
 
 // The generator's word, and how many draws the call has made so far.
-#[derive(Drop)]
+#[derive(Clone, Copy)]
 pub struct Gen {
     pub word: u64,
     pub draws: u64,
 }
 
-#[derive(Drop)]
+#[derive(Clone, Copy)]
 pub struct Drawn {
     pub output: u64,
     pub after: Gen,

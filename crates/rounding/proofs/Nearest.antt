@@ -1,7 +1,7 @@
 -- The nearest whole number of a fraction depends on the fraction's value alone, so a double's can be read off any fraction that it is.
 use Rattle.std.proofs.Common.{◌≡◌, ℕ, ◌+◌, ◌-◌, ◌*◌, ◌^◌, ◌<◌, ◌≤◌, Bool, sym, ap, ◌∙◌, lt_of_lt_of_le, zero-lt-suc, mul_assoc, mul_comm, add-mul, mul-one, mul_right_comm, mul_left_comm, arith, pow_pos, pow_mono, pow-add, shl_lt}
 use native.Mathlib.Nat.{eq_of_mul-eq-mul_right, div-eq_of_lt}
-use lib.Ieee.{Float, fin, binary64, up, down, round}
+use lib.Ieee.{Float, fin, binary64, up, down, round, inf, nan}
 use lib.Ieee.Digits.{back}
 use lib.Ieee.Exact.{HasValue}
 use lib.Ieee.Fits.{down_pos}
@@ -19,10 +19,14 @@ same-nearest a c b d p q h =
 pub size-at : (x : Float) (s : Bool) (a c : ℕ) → 0 < c → HasValue x s a c → whole_size x ≡ nearest_whole a c
 unfolding whole_size
 size-at (fin t m e) s a c p v = same-nearest (m * up e) (down e) a c (down_pos e) p v.1
+size-at nan s a c p v = elim v [ ]
+size-at (inf _) s a c p v = elim v [ ]
 
 pub away-at : (x : Float) (s : Bool) (a c : ℕ) → HasValue x s a c → round_away x ≡ round binary64 s (whole_size x) 1
 unfolding round_away
 away-at (fin t m e) s a c v = ap (λ (b : Bool). round binary64 b (whole_size (fin t m e)) 1) v.0
+away-at nan s a c v = elim v [ ]
+away-at (inf _) s a c v = elim v [ ]
 
 -- ---- the three ranges of the exponent
 
@@ -58,3 +62,5 @@ rescale (fin t m e) s w l num den p h v = (
       ∙ ap (λ (x : ℕ). x * down e) (sym h)
       ∙ mul_right_comm num l (down e)),
 )
+rescale nan s w l num den p h v = elim v [ ]
+rescale (inf _) s w l num den p h v = elim v [ ]

@@ -1,4 +1,6 @@
 // The methods of f64 that the sampler calls. Rounding reads a double's bit pattern: the sign, 11 bits of exponent, 52 digits.
+#![tactic(auto)]
+
 mod powers;
 
 ghost use Rattle.std.specs.Prelude.{◌≡◌, ◌-◌, ◌^◌, ◌<◌, ◌≤◌, min, not, T, from_bits, is_nan};

@@ -1,4 +1,6 @@
 // The whole state as a saved file, and back (document 02, W2).
+#![tactic(auto)]
+
 ghost use Rattle.std.specs.Prelude.{◌≡◌, length};
 ghost use Rattle.records.specs.Chain.{walk, Walks};
 ghost use Rattle.saved.specs.Restore.{refuse, content_of, restore_of};
@@ -16,27 +18,27 @@ use state::sound::is_sound;
 
 // 12: an empty file, a length that is no multiple of 32, a next index past the end, a record met twice, a lent file too
 // short. 13: a state that is not sound, or records that are not those of a sound state.
-#[derive(Drop)]
+#[derive(Clone, Copy)]
 pub enum FileRefusal {
     BadFile,
     BadContent,
 }
 
 // The file's length in bytes, or why nothing was written.
-#[derive(Drop)]
+#[derive(Clone, Copy)]
 pub enum SaveAnswer {
     Length(usize),
     Refused(FileRefusal),
 }
 
-#[derive(Drop)]
+#[derive(Clone, Copy)]
 pub enum RestoreAnswer {
     Taken,
     Refused(FileRefusal),
 }
 
 // The state that the file holds; where it is refused, the one that came in.
-#[derive(Drop)]
+#[derive(Clone, Copy)]
 pub struct Restored {
     pub answer: RestoreAnswer,
     pub state: State,

@@ -13,7 +13,7 @@ use distribution::{CategoricalDistribution, Distribution, FloatDistribution, Int
 use evolution::Setup;
 use numbers::{DoubleWord, IntWord, WholeWord};
 
-#[derive(Drop)]
+#[derive(Clone, Copy)]
 pub enum Command {
     // An empty line, or a comment: passed over.
     Skip,

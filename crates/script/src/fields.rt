@@ -10,35 +10,35 @@ use evolution::{DEStrategy, PopulationSize};
 use numbers::{DoubleWord, IntWord, WholeWord, read_double, read_int, read_whole};
 
 // A word read as the log flag.
-#[derive(Drop)]
+#[derive(Clone, Copy)]
 pub enum ScaleWord {
     Is(bool),
     Not,
 }
 
 // A word read as a Float distribution's step.
-#[derive(Drop)]
+#[derive(Clone, Copy)]
 pub enum FloatStepWord {
     Is(FloatStep),
     Not,
 }
 
 // A word read as an Int distribution's step.
-#[derive(Drop)]
+#[derive(Clone, Copy)]
 pub enum IntStepWord {
     Is(IntStep),
     Not,
 }
 
 // A word read as a strategy.
-#[derive(Drop)]
+#[derive(Clone, Copy)]
 pub enum StrategyWord {
     Is(DEStrategy),
     Not,
 }
 
 // A word read as a population size.
-#[derive(Drop)]
+#[derive(Clone, Copy)]
 pub enum SizeWord {
     Is(PopulationSize),
     Not,

@@ -1,4 +1,6 @@
 // The lines of a campaign script: what one line says.
+#![tactic(auto)]
+
 mod command;
 mod fields;
 mod hex;

@@ -1,5 +1,7 @@
 // The leaf parts of closing a generation (sampler/de.rs: `finalize_discovery`'s size, `initialize_population`,
 // `perform_selection`): which row stays, what each slot holds, and which slot is best.
+#![tactic(auto)]
+
 ghost use Rattle.std.specs.Prelude.{◌≡◌, ◌≤◌, length, take};
 ghost use Rattle.selection.specs.Select.{judged, survivor_of, selected, stored};
 ghost use Rattle.selection.specs.Best.{values, best_slot, least_value};

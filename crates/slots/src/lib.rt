@@ -1,4 +1,6 @@
 // What the slots hold: the look call, and the settings of a slot.
+#![tactic(auto)]
+
 ghost use Rattle.std.specs.Prelude.{◌≡◌, ◌≤◌};
 ghost use Rattle.rng_util.specs.Many.{pad_to, listed};
 ghost use Rattle.common.specs.Bounds.{zero_f};
@@ -12,7 +14,7 @@ use state::State;
 use state::sound::{is_sound, parent_count};
 
 // The best slot, or nothing before the first closing.
-#[derive(Drop)]
+#[derive(Clone, Copy)]
 pub enum LookAnswer {
     Refused(Refusal),
     Nothing,
@@ -20,7 +22,7 @@ pub enum LookAnswer {
 }
 
 // The first n values are those of the slots.
-#[derive(Drop)]
+#[derive(Clone, Copy)]
 pub struct Looked {
     pub look: LookAnswer,
     pub n: usize,
@@ -80,7 +82,7 @@ pub fn look(state: State) -> Looked
 }
 
 // What a slot holds in a dimension, or nothing where there is no such slot or dimension.
-#[derive(Drop)]
+#[derive(Clone, Copy)]
 pub enum Held {
     Refused(Refusal),
     Nothing,

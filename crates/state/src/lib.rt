@@ -1,4 +1,6 @@
 // The sampler's state (sampler/de.rs, "Internal types"), and whether a state is sound.
+#![tactic(auto)]
+
 use candidates::Candidate;
 use distribution::DimensionInfo;
 use evolution::{Member, Setup};
@@ -10,14 +12,14 @@ pub mod sound;
 
 // An open trial: its number, and the dimension that its next call gives. The i-th one has candidate i.
 #[repr(C)]
-#[derive(Drop)]
+#[derive(Clone, Copy)]
 pub struct TrialProgress {
     pub number: u64,
     pub next_dim: usize,
 }
 
 // `Option<u64>` of the Rust's `discovery_trial_id`.
-#[derive(Drop)]
+#[derive(Clone, Copy)]
 pub enum FirstTrial {
     Unnamed,
     Named(u64),
@@ -25,7 +27,7 @@ pub enum FirstTrial {
 
 // In use are n_dims dimensions, n_trials trials, after discovery n candidates and one for each trial past n, and n
 // parents once a generation has closed. Unused places are as in a fresh state.
-#[derive(Drop)]
+#[derive(Clone, Copy)]
 pub struct State {
     pub setup: Setup,
     pub first: FirstTrial,

@@ -19,7 +19,7 @@ use evolution::Member;
 
 // What the tests of candidates read of the dimensions, made once: how many are continuous, and what each choice stays
 // below.
-#[derive(Drop)]
+#[derive(Clone, Copy)]
 pub struct Limits {
     pub n: usize,
     pub choices: [u16; 16],

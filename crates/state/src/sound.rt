@@ -13,7 +13,7 @@ use evolution::Setup;
 use selection::{best_slot, population_size};
 
 // The counts of a state.
-#[derive(Drop)]
+#[derive(Clone, Copy)]
 pub struct Counts {
     pub n: usize,
     pub n_dims: usize,

@@ -5,7 +5,7 @@ ghost use Rattle.tells.specs.Input.{Within};
 use libc::STDIN_FILENO;
 
 // What came of reading into a lent text.
-#[derive(Drop)]
+#[derive(Clone, Copy)]
 pub enum Input {
     // The input is so many bytes.
     Whole(usize),

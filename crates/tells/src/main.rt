@@ -7,6 +7,8 @@
 // What a row holds is proved (rows.rt), and that a script reads it back as its entry (proofs/ToldBack). That standard
 // output then receives it is no contract: libc's write promises nothing of what it writes. A read or a write that
 // failed is also said on standard error. The program needs 3.6 MB of stack.
+#![tactic(auto)]
+
 ghost use Rattle.std.specs.Prelude.{◌≤◌, length};
 
 use input::Input;

@@ -6,7 +6,7 @@ ghost use Rattle.tells.specs.Text.{whole_text, pattern_text, tell_text, refused_
 use metrics::ExportRefusal;
 
 // The first `length` bytes of a block hold rows, the last of them of the entry before `next`.
-#[derive(Drop)]
+#[derive(Clone, Copy)]
 pub struct Filled {
     pub next: usize,
     pub length: usize,

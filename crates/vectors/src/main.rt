@@ -1,5 +1,7 @@
 // Runs the published SplitMix64 outputs, the bench figures of the leaves, and on the sampler the bounds and the small
 // inputs of the table of refusals. The file stdout has what must come out.
+#![tactic(auto)]
+
 mod answers;
 mod calls;
 mod closings;

@@ -1,0 +1,37 @@
+-- `close` meets its contract: the results of its calls, put together (`closed-so`), or refusal 11 (`closed-not`). Assumes nothing.
+use native.Mathlib.Omega.{arith}
+use mathlib.Core.Path.{◌≡◌}
+use borrow.Author.Rules.{rules}
+use lib.ListN.{length}
+use Rattle.candidates.proofs.Passed.{space-few, space-dims}
+use Rattle.state.proofs.Measured.{measured}
+use Rattle.closing.specs.Raw.{raw_parents}
+use Rattle.closing.proofs.Made.{parents_length, best-fits, closed-not, closed-so}
+use Rattle.closing.proofs.close.Goals as goal
+
+-- N parents, for the state's arrays are long enough
+many-results : (c : tie.Start) → length c.args.results ≡ 160
+many-results c = search rules
+
+many : (c : tie.Start) → length (raw_parents c.args.state c.args.results) ≡ c.args.state.n
+many c =
+    let s = c.args.state in
+    let m = measured s _ c.well_formed.0 in
+    parents_length s.closed s.n s.parents s.candidates c.args.results (omega (arith, m.parents, c.requires.few)) (omega (arith, m.candidates, c.requires.few)) (omega (arith, many-results c, c.requires.few))
+
+pub next_candidates-next-requires : goal.next_candidates-next-requires
+next_candidates-next-requires c =
+    let slots = c.settle-slots.ensures in
+    let p = c.requires in
+    let few = p.few_dims in
+    (p.enough, p.few, best-fits c.args.state c.args.results _ slots (many c) p.enough, space-few _ _ _ few c.search_space-space.ensures, space-dims _ _ _ few c.search_space-space.ensures, omega arith)
+
+pub returns-then-any_bad : goal.returns-then-any_bad
+returns-then-any_bad c =
+    let slots = c.settle-slots.ensures in
+    closed-not c.args.state c.args.results _ slots (many c) _ c.search_space-space.ensures _ c.next_candidates-next.ensures _ c.any_bad.ensures c.if-any_bad.true
+
+pub returns : goal.returns
+returns c =
+    let slots = c.settle-slots.ensures in
+    closed-so c.args.state c.args.results _ slots (many c) _ c.search_space-space.ensures _ c.next_candidates-next.ensures _ c.any_bad.ensures c.if-any_bad.false

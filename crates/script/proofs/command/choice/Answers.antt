@@ -1,0 +1,70 @@
+-- Each word's reading decides one step of the definition.
+use mathlib.Core.Path.{refl}
+use Rattle.script.specs.Commands.{choice_line}
+use Rattle.script.proofs.command.choice.Goals as goal
+
+slice-aggregate-key-is : tie.Need-slice-aggregate-key-is
+slice-aggregate-key-is c = refl
+
+slice-aggregate-key-is-2 : tie.Need-slice-aggregate-key-is-2
+slice-aggregate-key-is-2 c = refl
+
+pub enum_known-number : goal.enum_known-number
+enum_known-number c = c.in-Is.in-Is-own.keys1
+
+pub enum_told-1 : goal.enum_told-1
+enum_told-1 c = c.in_default.in_default-own.keys2
+
+pub returns-in_default : goal.returns-in_default
+unfolding choice_line
+returns-in_default c =
+    rw (
+      ← c.key-is.ensures,
+      c.if1.true,
+      ← c.key_is-then-key_is.ensures,
+      c.if-key_is-2.true,
+      ← c.whole_at.ensures,
+      c.in_default.is,
+    )
+
+pub enum_known-n_choices : goal.enum_known-n_choices
+enum_known-n_choices c = c.in-Is-whole_at.in-Is-whole_at-own.keys1
+
+pub enum_told-in_default-whole_at : goal.enum_told-in_default-whole_at
+enum_told-in_default-whole_at c = c.in_default-whole_at.in_default-whole_at-own.keys2
+
+pub returns-in_default-whole_at : goal.returns-in_default-whole_at
+unfolding choice_line
+returns-in_default-whole_at c =
+    rw (
+      ← c.key-is.ensures,
+      c.if1.true,
+      ← c.key_is-then-key_is.ensures,
+      c.if-key_is-2.true,
+      ← c.whole_at.ensures,
+      c.in-Is.is,
+      ← c.whole_at-then-key_is-2.ensures,
+      c.in_default-whole_at.is,
+    )
+
+pub returns-then-key_is-2 : goal.returns-then-key_is-2
+unfolding choice_line
+returns-then-key_is-2 c =
+    rw (
+      ← c.key-is.ensures,
+      c.if1.true,
+      ← c.key_is-then-key_is.ensures,
+      c.if-key_is-2.true,
+      ← c.whole_at.ensures,
+      c.in-Is.is,
+      ← c.whole_at-then-key_is-2.ensures,
+      c.in-Is-whole_at.is,
+    )
+
+pub returns-else-key_is-2 : goal.returns-else-key_is-2
+unfolding choice_line
+returns-else-key_is-2 c = rw (← c.key-is.ensures, c.if1.true, ← c.key_is-then-key_is.ensures, c.if-key_is-2.false)
+
+pub returns-else-key_is : goal.returns-else-key_is
+unfolding choice_line
+returns-else-key_is c = rw (← c.key_is.ensures, c.if-key_is.false)

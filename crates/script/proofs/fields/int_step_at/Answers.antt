@@ -1,0 +1,36 @@
+-- The test and the arm are the definition's; the machine reads a signed number back from its bits.
+use mathlib.Core.Path.{refl}
+use mir.Syntax.{w64}
+use mir.Facts.{to_z-of_z}
+use Rattle.script.specs.Fields.{int_step_of}
+use Rattle.script.proofs.fields.int_step_at.Goals as goal
+
+slice-aggregate-is : tie.Need-slice-aggregate-is
+slice-aggregate-is c = refl
+
+pub returns-then-is : goal.returns-then-is
+unfolding int_step_of
+returns-then-is c = rw (← c.word.ensures, ← c.is.ensures, c.if-is.true)
+
+pub enum_known-n : goal.enum_known-n
+enum_known-n c = c.in-Is.in-Is-own.keys1
+
+pub enum_told-1 : goal.enum_told-1
+enum_told-1 c = c.in-Not.in-Not-own.keys2
+
+pub returns-in-Is : goal.returns-in-Is
+unfolding int_step_of
+returns-in-Is c =
+    rw (
+      ← c.word.ensures,
+      ← c.is.ensures,
+      c.if-is.false,
+      ← c.read_int.ensures,
+      c.in-Is.is,
+      to_z-of_z {w = w64} (record { sfits = c.in-Is.known_told-1-own.given.0.1 }),
+    )
+
+pub returns-in-Not : goal.returns-in-Not
+unfolding int_step_of
+returns-in-Not c =
+    rw (← c.word.ensures, ← c.is.ensures, c.if-is.false, ← c.read_int.ensures, c.in-Not.is)

@@ -1,0 +1,14 @@
+-- `all_finite` meets its contract: a sweep, `sweep-turn` with each entry.
+use Prim.Native.Nat.{◌-◌}
+use mathlib.Core.Bool.{◌&&◌}
+use mathlib.Core.Path.{◌≡◌}
+use lib.ListN.{drop}
+use Rattle.distribution.specs.Validate.{is_finite}
+use Rattle.ledger.specs.Words.{all}
+use Rattle.state.proofs.places.all_finite.Given as goal
+
+abbrev pub invariant-loop-j : goal.invariant-loop-j
+invariant-loop-j l = all is_finite l.x ≡ (l.fit && all is_finite (drop l.j l.x))
+
+abbrev pub decreases-loop-j : goal.decreases-loop-j
+decreases-loop-j l = 16 - l.j
