@@ -153,14 +153,14 @@ module _ (K : Kernel) where
         let below : T (lt l.1 before) = subst (λ (z : Float). T (lt l.1 z)) old.is (l.3 old.slot.value (result-among gs c.0 old.place old.slot.value c.1)) in
         let p = some_at (select K ps cs row) l.0 (omega (arith, each, rows, at-below row l.0 l.1 l.2)) in
         let t = selected K ps cs row l.0 p.0 p.1 in
-        le_lt_trans after l.1 before (le_trans after p.0.value l.1 (new.least l.0 p.0 p.1) (at_most l.0 l.1 l.2 p.0 t t.which)) below
+        le_lt_trans after l.1 before (le_trans after p.0.value l.1 (new.least l.0 p.0 p.1) (at-most l.0 l.1 l.2 p.0 t t.which)) below
       where
-        at_most : (i : ℕ) (r : Float) → get_elem? row i ≡ some r → (p : Parent Candidate) (t : Selected K ps cs row i p)
+        at-most : (i : ℕ) (r : Float) → get_elem? row i ≡ some r → (p : Parent Candidate) (t : Selected K ps cs row i p)
             → ((le t.new.value t.old.value ≡ true) × (p ≡ t.new)) ⊎ ((le t.new.value t.old.value ≡ false) × (p ≡ t.old)) → T (le p.value r)
-        at_most i r e p t (inl x) =
+        at-most i r e p t (inl x) =
             let is : p.value ≡ r = ap (λ (q : Parent Candidate). q.value) x.1 ∙ some_inj (sym t.value_at ∙ e) in
             subst (λ (z : Float). T (le p.value z)) is (le_refl p.value (subst (λ (z : Float). z ≢ nan) (sym is) (all-at (λ v. v ≢ nan) row good i r e)))
-        at_most i r e p t (inr x) =
+        at-most i r e p t (inr x) =
             let is : t.new.value ≡ r = some_inj (sym t.value_at ∙ e) in
             let g = all-at (λ q. q.value ≢ nan) ps olds i t.old t.old_at in
             let b = lt→le t.old.value t.new.value (not-le→lt t.new.value t.old.value (all-at (λ v. v ≢ nan) row good i t.new.value t.value_at) g x.0) in
