@@ -1,6 +1,5 @@
 use Rattle.numbers.proofs.Laws.{within, past, no_digit, next, at-end, too_large}
 use mathlib.Core.Path.{refl, sym, ◌∙◌}
-use Prim.Native.Nat.{◌-◌}
 use native.Mathlib.Omega.{arith}
 use Rattle.numbers.proofs.number.Goals as goal
 

@@ -5,12 +5,6 @@ use Rattle.numbers.specs.Numbers.{negated, plain}
 use borrow.Author.Rules.{rules}
 use Rattle.numbers.proofs.read_int.Goals as goal
 
-part-read-whole-start : tie.Need-slice-bounds-read-whole-start
-part-read-whole-start c = search rules
-
-part-read-whole-end : tie.Need-slice-bounds-read-whole-end
-part-read-whole-end c = search rules
-
 pub returns-then-s-eq0 : goal.returns-then-s-eq0
 returns-then-s-eq0 c = int-none _ c.if-s-eq0.true
 
