@@ -120,6 +120,12 @@ clamp-kept nan l h p q = go (lt nan l) (lt h nan)
     go false true n = q
     go false false n = absurd (true≢false n)
 clamp-kept (inf true) (fin t n d) h p q = λ _. tt
+clamp-kept (inf true) nan h p q = elim p [ ]
+clamp-kept (inf true) (inf _) h p q = elim p [ ]
+clamp-kept (inf false) nan h p q = elim p [ ]
+clamp-kept (inf false) (inf _) h p q = elim p [ ]
+clamp-kept (inf false) (fin t n d) nan p q = elim q [ ]
+clamp-kept (inf false) (fin t n d) (inf _) p q = elim q [ ]
 clamp-kept (inf false) (fin t n d) (fin u o c) p q = λ _. tt
 clamp-kept (fin s m e) l h p q = go (lt (fin s m e) l) (lt h (fin s m e))
   where

@@ -7,7 +7,7 @@ use mathlib.Core.Option.{some}
 use Prim.Native.Nat.{ℕ, zero, suc, ◌-◌}
 use native.Mathlib.Omega.{arith}
 use lib.Dec.{T}
-use lib.Ieee.{Float, fin, is_nan, of_bits, of_fields, odd}
+use lib.Ieee.{Float, nan, inf, fin, is_nan, of_bits, of_fields, odd}
 use lib.ListN.{length, get_or, replicate}
 use Rattle.rng_util.specs.Many.{many}
 use Rattle.rng_util.specs.declared.Gen.{Gen}
@@ -27,6 +27,8 @@ use Rattle.kernel.proofs.Fit.{all_made, Passes, bounds-at, entry-finite}
 not-nan : (x : Float) → T (is_finite x) → is_nan x ≡ false
 unfolding is_nan
 not-nan (fin s m e) h = refl
+not-nan nan h = elim h [ ]
+not-nan (inf _) h = elim h [ ]
 
 zeros-numbers : (m : ℕ) → any_nan (replicate m zero_f) ≡ false
 unfolding any_nan is_nan of_bits of_fields odd
