@@ -16,7 +16,7 @@ pub returns : goal.returns
 returns c =
     let a = c.args.a in
     let b = c.args.b in
-    c.wrapping_add_u64.ensures
-    ∙ ap (λ (x : ℕ). (x * 2 ^ 32 % 2 ^ 64 + a % 2 ^ 32 * (b % 2 ^ 32)) % 2 ^ 64) c.wrapping_add_u64-cross.ensures
+    c.wrapping_add_u64.ensures.value
+    ∙ ap (λ (x : ℕ). (x * 2 ^ 32 % 2 ^ 64 + a % 2 ^ 32 * (b % 2 ^ 32)) % 2 ^ 64) c.wrapping_add_u64-cross.ensures.value
     ∙ low-digits (2 ^ 32) (a % 2 ^ 32) (a / 2 ^ 32) (b % 2 ^ 32) (b / 2 ^ 32)
     ∙ (λ i. split a 32 i * split b 32 i % 2 ^ 64)

@@ -7,7 +7,7 @@ use Rattle.rounding.proofs.floor.Goals as goal
 
 pub truncating_f64_to_u64-requires : goal.truncating_f64_to_u64-requires
 unfolding of_bits of_fields odd count_trailing_zeros
-truncating_f64_to_u64-requires c = (above _ c.if-x.true, subst T (sym c.if-x-2.true) tt)
+truncating_f64_to_u64-requires c = record { lower_bound = above _ c.if-x.true; upper_bound = subst T (sym c.if-x-2.true) tt }
 
 pub returns-then-x-2 : goal.returns-then-x-2
 returns-then-x-2 c = c.truncating_f64_to_u64.ensures ∙ truncated _

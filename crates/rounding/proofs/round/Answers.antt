@@ -1,11 +1,11 @@
 -- `round` meets its contract: a NaN and what is whole already stay; of the rest the size is rounded, and the pattern's sign goes back on.
-use Rattle.std.proofs.Common.{◌≡◌, ℕ, Bool, T, sym, refl, ap, ◌∙◌, subst, le-leb}
-use lib.Ieee.{Float, nan, binary64, round, neg, to_bits, of_int}
+use Rattle.std.proofs.Common.{◌≡◌, ℕ, ◌-◌, ◌^◌, ◌<◌, min, Bool, true, T, sym, refl, ap, ◌∙◌, subst, le-leb}
+use lib.Ieee.{Float, nan, binary64, round, neg, to_bits, of_bits, of_int, fits}
 use lib.Ieee.Compare.{differs_from_itself}
 use borrow.Author.Tests.{lt-leb}
-use Rattle.rounding.specs.Round.{round_away}
+use Rattle.rounding.specs.Round.{round_away, whole_size}
 use Rattle.rounding.proofs.Negated.{neg-round}
-use Rattle.rounding.proofs.Patterns.{sign, away-bits, keep-bits, under-bits, no_nan, own, own-no-nan}
+use Rattle.rounding.proofs.Patterns.{sign, exponent, away-bits, keep-bits, under-bits, no_nan, own, own-no-nan}
 use Rattle.rounding.proofs.round.Goals as goal
 
 nan-stays : nan ≡ round_away nan
@@ -13,14 +13,12 @@ unfolding round_away
 nan-stays = refl
 
 -- what is rounded, with the sign of the pattern's highest digit
-rounded : (c : tie.After-nearest-u64-to-f64)
-    → let x = c.before.before.before.before.args.x in round_away x ≡ round binary64 (sign (to_bits binary64 x)) c.before.size_of.result 1
-rounded c =
-    let x = c.before.before.before.before.args.x in
+rounded : (x : Float) (r : ℕ) → fits binary64 x ≡ true → exponent (to_bits binary64 x) < 1075 → r ≡ min (whole_size (of_bits binary64 (to_bits binary64 x))) (2 ^ 64 - 1) → round_away x ≡ round binary64 (sign (to_bits binary64 x)) r 1
+rounded x r f h e =
     let b = to_bits binary64 x in
-    ap round_away (own x c.before.before.before.before.well_formed.0.1)
-    ∙ away-bits b c.before.before.if2.false
-    ∙ ap (λ (n : ℕ). round binary64 (sign b) n 1) (sym (c.before.size_of.ensures ∙ under-bits b c.before.before.if2.false))
+    ap round_away (own x f)
+    ∙ away-bits b h
+    ∙ ap (λ (n : ℕ). round binary64 (sign b) n 1) (sym (e ∙ under-bits b h))
 
 pub returns-then-x : goal.returns-then-x
 returns-then-x c = subst (λ (y : Float). y ≡ round_away y) (sym (differs_from_itself _ (subst T (sym c.if-x.true) tt))) nan-stays
@@ -43,11 +41,11 @@ returns-then-bits-ge-SIGN c =
     ap neg c.nearest_u64_to_f64-r.ensures
     ∙ neg-round binary64 c.size_of.result 1
     ∙ ap (λ (b : Bool). round binary64 b c.size_of.result 1) (sym (le-leb _ _ c.if-bits-ge-SIGN.true))
-    ∙ sym (rounded c)
+    ∙ sym (rounded c.args.x c.size_of.result c.well_formed.0.1 c.if-bits-ge1075.false c.size_of.ensures)
 
 pub returns-else-bits-ge-SIGN : goal.returns-else-bits-ge-SIGN
 unfolding of_int
 returns-else-bits-ge-SIGN c =
     c.nearest_u64_to_f64-r.ensures
     ∙ ap (λ (b : Bool). round binary64 b c.size_of.result 1) (sym (lt-leb _ _ c.if-bits-ge-SIGN.false))
-    ∙ sym (rounded c)
+    ∙ sym (rounded c.args.x c.size_of.result c.well_formed.0.1 c.if-bits-ge1075.false c.size_of.ensures)

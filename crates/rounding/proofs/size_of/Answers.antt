@@ -1,5 +1,5 @@
 -- `size_of` meets its contract: a case for each range of the exponent.
-use Rattle.std.proofs.Common.{◌≡◌, ℕ, ◌+◌, ◌-◌, ◌*◌, ◌%◌, ◌^◌, ◌<◌, ◌≤◌, min, not, T, sym, ap, ◌∙◌, ⊎_elim, le_trans, le_refl, mul-le-mul_left, arith, pow_mono}
+use Rattle.std.proofs.Common.{◌≡◌, ℕ, ◌+◌, ◌-◌, ◌*◌, ◌%◌, ◌^◌, ◌<◌, ◌≤◌, min, not, T, sym, ap, ◌∙◌, ⊎_elim, le_trans, le_refl, mul-le-mul_left, arith, lit≤, pow_mono}
 use lib.Ieee.{binary64, is_nan, of_bits}
 use Rattle.rounding.specs.Round.{whole_size}
 use Rattle.rounding.proofs.Patterns.{exponent, digits, low_bits, mid-bits, high_bits, top-bits, exponent-cases}
@@ -39,7 +39,7 @@ returns-then-exponent-lt1075 c =
 pub returns-then-exponent-lt1087 : goal.returns-then-exponent-lt1087
 returns-then-exponent-lt1087 c =
     let b = c.args.bits in
-    kept _ _ (high_bits b c.if-exponent-lt1075.false (omega arith) ∙ ap (λ (p : ℕ). (4503599627370496 + b % 4503599627370496) * p) (sym c.pow2.ensures)) (overflow_mul-result c).ranges
+    kept _ _ (high_bits b c.if-exponent-lt1075.false (omega arith) ∙ ap (λ (p : ℕ). (4503599627370496 + b % 4503599627370496) * p) (sym c.pow2.ensures)) (overflow_mul-result c).fits
 
 pub returns-else-exponent-lt1087 : goal.returns-else-exponent-lt1087
 returns-else-exponent-lt1087 c = past _ (far c.args.bits c.if-exponent-lt1087.false c.requires)
