@@ -14,6 +14,7 @@ use Rattle.candidates.proofs.Lists.{next-drop}
 -- a number equals itself
 same : (t : Bool) → T t → not (t && true) ≡ false
 same true h = refl
+same false h = elim h [ ]
 
 ne-self : (v : Float) → ne v v ≡ is_nan v
 unfolding ne is_nan

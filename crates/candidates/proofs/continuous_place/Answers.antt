@@ -14,4 +14,4 @@ pub loop-i-preserved : goal.loop-i-preserved
 loop-i-preserved c = (omega arith, passed-no c.args.dims c.args.at.0 _ _ _ (search rules) (omega arith) c.loop-i.invariant.1 _ c.is_continuous.ensures c.if-is_continuous.false)
 
 pub returns : goal.returns
-returns c = place_is c.args.dims c.args.n-dims c.args.at.0 _ (search rules) (count-is c.args.dims c.args.at.0 _ _ (search rules) (omega arith) c.loop-i.invariant.1)
+returns c = place_is c.args.dims c.args.n_dims c.args.at.0 _ (search rules) (count-is c.args.dims c.args.at.0 _ _ (search rules) (omega arith) c.loop-i.invariant.1)

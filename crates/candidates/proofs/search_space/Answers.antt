@@ -4,4 +4,4 @@ use Rattle.candidates.proofs.Passed.{space-is}
 use Rattle.candidates.proofs.search_space.Goals as goal
 
 pub returns : goal.returns
-returns c = space-is c.args.dims c.args.n-dims _ _ (search rules) c.continuous_bounds-s.ensures c.choice_counts-counts.ensures
+returns c = space-is c.args.dims c.args.n_dims _ _ (search rules) c.continuous_bounds-s.ensures c.choice_counts-counts.ensures

@@ -4,34 +4,32 @@ use mathlib.Core.Path.{◌≡◌}
 use borrow.Author.Rules.{rules}
 use lib.ListN.{length}
 use Rattle.candidates.proofs.Passed.{space-few, space-dims}
-use Rattle.state.proofs.Measured.{measured}
+use Rattle.state.proofs.Measured.{Measured, measured}
 use Rattle.closing.specs.Raw.{raw_parents}
 use Rattle.closing.proofs.Made.{parents_length, best-fits, closed-not, closed-so}
+use Rattle.state.specs.declared.State.{State}
+use Prim.Native.Nat.{◌≤◌}
+use mathlib.Core.List.{List}
+use lib.Ieee.{Float}
 use Rattle.closing.proofs.close.Goals as goal
 
 -- N parents, for the state's arrays are long enough
-many-results : (c : tie.Start) → length c.args.results ≡ 160
-many-results c = search rules
-
-many : (c : tie.Start) → length (raw_parents c.args.state c.args.results) ≡ c.args.state.n
-many c =
-    let s = c.args.state in
-    let m = measured s _ c.well_formed.0 in
-    parents_length s.closed s.n s.parents s.candidates c.args.results (omega (arith, m.parents, c.requires.few)) (omega (arith, m.candidates, c.requires.few)) (omega (arith, many-results c, c.requires.few))
+many : (s : State) (rs : List Float) → Measured s → length rs ≡ 160 → s.n ≤ 160 → length (raw_parents s rs) ≡ s.n
+many s rs m h few = parents_length s.closed s.n s.parents s.candidates rs (omega (arith, m.parents)) (omega (arith, m.candidates)) (omega arith)
 
 pub next_candidates-next-requires : goal.next_candidates-next-requires
 next_candidates-next-requires c =
     let slots = c.settle-slots.ensures in
     let p = c.requires in
     let few = p.few_dims in
-    (p.enough, p.few, best-fits c.args.state c.args.results _ slots (many c) p.enough, space-few _ _ _ few c.search_space-space.ensures, space-dims _ _ _ few c.search_space-space.ensures, omega arith)
+    (p.enough, p.few, best-fits c.args.state c.args.results _ slots (many c.args.state c.args.results (measured c.args.state _ c.well_formed.0) (search rules) c.requires.few) p.enough, space-few _ _ _ few c.search_space-space.ensures, space-dims _ _ _ few c.search_space-space.ensures, omega arith)
 
 pub returns-then-any_bad : goal.returns-then-any_bad
 returns-then-any_bad c =
     let slots = c.settle-slots.ensures in
-    closed-not c.args.state c.args.results _ slots (many c) _ c.search_space-space.ensures _ c.next_candidates-next.ensures _ c.any_bad.ensures c.if-any_bad.true
+    closed-not c.args.state c.args.results _ slots (many c.args.state c.args.results (measured c.args.state _ c.well_formed.0) (search rules) c.requires.few) _ c.search_space-space.ensures _ c.next_candidates-next.ensures _ c.any_bad.ensures c.if-any_bad.true
 
 pub returns : goal.returns
 returns c =
     let slots = c.settle-slots.ensures in
-    closed-so c.args.state c.args.results _ slots (many c) _ c.search_space-space.ensures _ c.next_candidates-next.ensures _ c.any_bad.ensures c.if-any_bad.false
+    closed-so c.args.state c.args.results _ slots (many c.args.state c.args.results (measured c.args.state _ c.well_formed.0) (search rules) c.requires.few) _ c.search_space-space.ensures _ c.next_candidates-next.ensures _ c.any_bad.ensures c.if-any_bad.false

@@ -16,8 +16,8 @@ loop-j-preserved c =
     let l = c.loop-j in
     let a = c.args in
     let e = c.cross_entry-d.ensures in
-    let make = cross_at a.rate a.j-rand (in_row a.t3) (in_flat a.rows.now a.i) a.t6 in
-    (omega arith, omega (arith, drew-entry a.rate a.j-rand _ _ _ l.j l.g _ e), part-again 16 zero_f make _ _ _ l.g l.j _ _ (omega arith) (omega arith) (entry-parts (make l.j l.g) _ e).0 (entry-parts (make l.j l.g) _ e).1 l.invariant.2)
+    let make = cross_at a.rate a.j_rand (in_row a.mutant) (in_flat a.rows.now a.i) a.space in
+    (omega arith, omega (arith, drew-entry a.rate a.j_rand _ _ _ l.j l.g _ e), part-again 16 zero_f make _ _ _ l.g l.j _ _ (omega arith) (omega arith) (entry-parts (make l.j l.g) _ e).0 (entry-parts (make l.j l.g) _ e).1 l.invariant.2)
 
 pub returns : goal.returns
 unfolding crossed

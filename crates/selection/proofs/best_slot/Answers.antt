@@ -19,16 +19,16 @@ pub loop-i-preserved-then-v-best_value : goal.loop-i-preserved-then-v-best_value
 loop-i-preserved-then-v-best_value c =
     let l = c.loop-i in
     let a = c.args in
-    (omega arith, l.invariant.1 ∙ best-yes a.t1 a.n l.i l.best-value l.best (search rules) (omega arith) c.if-v-best_value.true)
+    (omega arith, l.invariant.1 ∙ best-yes a.parents a.n l.i l.best_value l.best (search rules) (omega arith) c.if-v-best_value.true)
 
 pub loop-i-preserved : goal.loop-i-preserved
 loop-i-preserved c =
     let l = c.loop-i in
     let a = c.args in
-    (omega arith, l.invariant.1 ∙ best-no a.t1 a.n l.i l.best-value l.best (search rules) (omega arith) c.if-v-best_value.false)
+    (omega arith, l.invariant.1 ∙ best-no a.parents a.n l.i l.best_value l.best (search rules) (omega arith) c.if-v-best_value.false)
 
 pub returns : goal.returns
 returns c =
     let l = c.loop-i in
     let a = c.args in
-    sym (l.invariant.1 ∙ best-end a.t1 a.n l.i l.best-value l.best (search rules) (omega arith))
+    sym (l.invariant.1 ∙ best-end a.parents a.n l.i l.best_value l.best (search rules) (omega arith))

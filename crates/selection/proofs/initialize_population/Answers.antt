@@ -14,10 +14,10 @@ pub loop-i-preserved : goal.loop-i-preserved
 loop-i-preserved c =
     let l = c.loop-i in
     let a = c.args in
-    (omega arith, fill-again 160 blank_member (stored_at a.t1 a.t2) a.n _ l.i _ (omega arith) (omega arith) refl l.invariant.1)
+    (omega arith, fill-again 160 blank_member (stored_at a.candidates a.results) a.n _ l.i _ (omega arith) (omega arith) refl l.invariant.1)
 
 pub returns : goal.returns
 returns c =
     let l = c.loop-i in
     let a = c.args in
-    fill-last 160 blank_member (stored_at a.t1 a.t2) a.n _ _ (omega arith) l.invariant.1 ∙ ap members_rec (stored_is a.t1 a.t2 a.n (search rules) (search rules))
+    fill-last 160 blank_member (stored_at a.candidates a.results) a.n _ _ (omega arith) l.invariant.1 ∙ ap members_rec (stored_is a.candidates a.results a.n (search rules) (search rules))

@@ -13,8 +13,8 @@ slice_bounds-result-end-else-trial_value-parent_value c = sym (length-take-le _ 
 
 pub returns-else-trial_value-parent_value : goal.returns-else-trial_value-parent_value
 unfolding judged
-returns-else-trial_value-parent_value c = rw c.if1.false
+returns-else-trial_value-parent_value c = rw c.if-trial_value-parent_value.false
 
 pub returns-then-trial_value-parent_value : goal.returns-then-trial_value-parent_value
 unfolding judged
-returns-then-trial_value-parent_value c = rw c.if1.true
+returns-then-trial_value-parent_value c = rw c.if-trial_value-parent_value.true

@@ -6,11 +6,6 @@ use lib.Ieee.{of_bits, of_fields, nan_bits}
 use Rattle.selection.proofs.Best.{best-in, least-read, least-none}
 use Rattle.selection.proofs.least_value.Goals as goal
 
-best-below : (c : tie.After-best-slot) → c.best-slot.result < 160
-best-below c =
-    let start = c.before.before in
-    omega (arith, c.best-slot.ensures, best-in start.args.t1 start.args.n (search rules) (omega arith))
-
 pub float_from_bits-result : goal.float_from_bits-result
 unfolding nan_bits
 float_from_bits-result c = tt
@@ -20,10 +15,10 @@ unfolding of_bits of_fields
 returns-then-n-eq0 c = least-none _ _ c.if-n-eq0.true
 
 pub offset_bounds-parents-best_slot : goal.offset_bounds-parents-best_slot
-offset_bounds-parents-best_slot c = omega (arith, best-below c)
+offset_bounds-parents-best_slot c = omega (arith, best-in c.args.parents c.args.n (search rules) (omega arith))
 
 pub bounds-parents-best_slot : goal.bounds-parents-best_slot
-bounds-parents-best_slot c = best-below c
+bounds-parents-best_slot c = omega (arith, best-in c.args.parents c.args.n (search rules) (omega arith))
 
 pub returns : goal.returns
 returns c =

@@ -14,10 +14,10 @@ pub loop-i-preserved : goal.loop-i-preserved
 loop-i-preserved c =
     let l = c.loop-i in
     let a = c.args in
-    (omega arith, fill-again 160 blank_member (slot_at a.t1 a.t2 a.t3) a.n _ l.i _ (omega arith) (omega arith) c.survivor-m.ensures l.invariant.1)
+    (omega arith, fill-again 160 blank_member (slot_at a.parents a.candidates a.results) a.n _ l.i _ (omega arith) (omega arith) c.survivor-m.ensures l.invariant.1)
 
 pub returns : goal.returns
 returns c =
     let l = c.loop-i in
     let a = c.args in
-    fill-last 160 blank_member (slot_at a.t1 a.t2 a.t3) a.n _ _ (omega arith) l.invariant.1 ∙ ap members_rec (selected-is a.t1 a.t2 a.t3 a.n (search rules) (search rules) (search rules))
+    fill-last 160 blank_member (slot_at a.parents a.candidates a.results) a.n _ _ (omega arith) l.invariant.1 ∙ ap members_rec (selected-is a.parents a.candidates a.results a.n (search rules) (search rules) (search rules))

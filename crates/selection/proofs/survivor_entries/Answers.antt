@@ -5,10 +5,10 @@ use Rattle.selection.proofs.survivor_entries.Goals as goal
 
 pub copy_row-requires : goal.copy_row-requires
 copy_row-requires c =
-    let a = c.before.before.before.before.before.before.before.args in
-    row-few a.t1.x a.t2.x _ a.parent-value a.trial-value (search rules) (search rules) c.judge-row.ensures
+    let a = c.args in
+    row-few a.parent.x a.trial.x _ a.parent_value a.trial_value (search rules) (search rules) c.judge-row.ensures
 
 pub returns : goal.returns
 returns c =
-    let a = c.before.before.before.before.before.before.before.before.args in
-    row_stays a.t1.x a.t2.x _ a.parent-value a.trial-value (search rules) (search rules) c.judge-row.ensures _ c.copy_row.ensures
+    let a = c.args in
+    row_stays a.parent.x a.trial.x _ a.parent_value a.trial_value (search rules) (search rules) c.judge-row.ensures _ c.copy_row.ensures

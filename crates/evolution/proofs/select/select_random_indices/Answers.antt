@@ -5,13 +5,13 @@ use Rattle.evolution.proofs.Apart.{got-three, got-two, drew-index}
 use Rattle.evolution.proofs.select.select_random_indices.Goals as goal
 
 pub select_random_index-b-requires : goal.select_random_index-b-requires
-select_random_index-b-requires c = (search rules, omega (arith, drew-index c.args.n _ c.args.from _ c.select-random-index.ensures))
+select_random_index-b-requires c = (search rules, omega (arith, drew-index c.args.n _ c.args.from _ c.select_random_index-a.ensures))
 
 pub select_random_index-c-requires : goal.select_random_index-c-requires
-select_random_index-c-requires c = (search rules, omega (arith, drew-index c.args.n _ c.args.from _ c.select-random-index.ensures, drew-index c.args.n _ c.select-random-index.result.after _ c.select-random-index2.ensures))
+select_random_index-c-requires c = (search rules, omega (arith, drew-index c.args.n _ c.args.from _ c.select_random_index-a.ensures, drew-index c.args.n _ c.select_random_index-a.result.after _ c.select_random_index-b.ensures))
 
 pub returns-then-count-eq3 : goal.returns-then-count-eq3
-returns-then-count-eq3 c = got-three _ _ _ _ _ _ c.select-random-index.ensures c.select-random-index2.ensures _ c.if1.true c.select_random_index-c.ensures
+returns-then-count-eq3 c = got-three _ _ _ _ _ _ c.select_random_index-a.ensures c.select_random_index-b.ensures _ c.if-count-eq3.true c.select_random_index-c.ensures
 
 pub returns : goal.returns
-returns c = got-two _ _ _ _ _ _ c.select-random-index.ensures c.select_random_index-b.ensures c.if-count-eq3.false
+returns c = got-two _ _ _ _ _ _ c.select_random_index-a.ensures c.select_random_index-b.ensures c.if-count-eq3.false
