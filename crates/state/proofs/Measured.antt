@@ -1,15 +1,16 @@
 -- What the types of a state's fields say: how long its arrays are, and how large its counters. A function knows it of each State that it is handed.
 use Prim.Native.Nat.{ℕ, ◌≤◌}
 use native.Mathlib.Omega.{arith}
-use mathlib.Core.Path.{◌≡◌, sym, ◌∙◌, subst}
+use mathlib.Core.Path.{◌≡◌, sym, subst}
 use mathlib.Core.List.Memᴰ
-use mathlib.Core.List.{List, [], ◌∷◌, map}
-use lib.ListN.{length, length-map}
+use mathlib.Core.List.{List, [], ◌∷◌}
+use lib.ListN.{length}
 use mir.Val.{Val}
 use denote.Laws.{Is}
 use denote.Array.{Array, each}
 use denote.Shadow.{shadow}
-use denote.Struct.Field.{Field, f64-field, u16-field}
+use denote.Builtin.{f64, u16}
+use denote.RattleType.{RattleType}
 use Rattle.distribution.specs.contracts.DimensionInfo as D
 use Rattle.candidates.specs.contracts.Candidate as C
 use Rattle.candidates.specs.declared.Candidate.{Candidate}
@@ -36,20 +37,20 @@ pub record Measured (s : State) : Type 0 where
   pub closed : s.closed ≤ cap
   pub idle : s.idle ≤ cap
 
--- ---- an array that is a field of a struct
+-- ---- an array
 
-module _ (F : Field) (n : ℕ) (xs : List F.Value) (vs : List Val) (p : Is (Array F.row n) (map F.into xs) vs) where
-  field-length : length xs ≡ n
-  field-length = sym (length-map xs F.into) ∙ p.1.0.1
+field-length : (R : RattleType) (n : ℕ) (xs : List R.Denot) (vs : List Val) → Is (Array R n) xs vs → length xs ≡ n
+field-length R n xs vs p = p.1.0.1
 
-each-field : (F : Field) (P : F.Value → Type 0) → ((x : F.Value) (vs : List Val) → Is F.row (F.into x) vs → P x)
-    → (xs : List F.Value) (us : List Val) → shadow (each F.row.Denot F.row.own_val (map F.into xs) us) → All P xs
-each-field F P h (x ∷ xs) [] p a m = absurd p
-each-field F P h (x ∷ xs) (u ∷ us) p a (Memᴰ.head e) = subst P (sym e) (h x (u ∷ []) p.0)
-each-field F P h (x ∷ xs) (u ∷ us) p a (Memᴰ.tail m) = each-field F P h xs us p.1 a m
+each-field : (R : RattleType) (P : R.Denot → Type 0) → ((x : R.Denot) (vs : List Val) → Is R x vs → P x)
+    → (xs : List R.Denot) (us : List Val) → shadow (each R.Denot R.own_val xs us) → All P xs
+each-field R P h [] us p a m = elim m [ ]
+each-field R P h (x ∷ xs) [] p a m = absurd p
+each-field R P h (x ∷ xs) (u ∷ us) p a (Memᴰ.head e) = subst P (sym e) (h x (u ∷ []) p.0)
+each-field R P h (x ∷ xs) (u ∷ us) p a (Memᴰ.tail m) = each-field R P h xs us p.1 a m
 
-sized : (c : Candidate) (vs : List Val) → Is (C.the_field).row ((C.the_field).into c) vs → Sized c
-sized c vs p = record { x = field-length f64-field 16 c.x _ p.1.1.0; choices = field-length u16-field 16 c.choices _ p.1.1.1.0 }
+sized : (c : Candidate) (vs : List Val) → Is C.the_row c vs → Sized c
+sized c vs p = record { x = field-length f64 16 c.x _ p.1.1.0; choices = field-length u16 16 c.choices _ p.1.1.1.0 }
 
 -- ---- the whole
 
@@ -61,12 +62,12 @@ measured s vs p =
     let trials = parents.1.1 in
     let closed = trials.1.1.1 in
     record {
-      dims = field-length D.the_field 16 s.dims _ dims.0;
-      candidates = field-length C.the_field 224 s.candidates _ candidates.0;
-      parents = field-length M.the_field 160 s.parents _ parents.0;
-      trials = field-length T.the_field 224 s.trials _ trials.0;
-      candidates_sized = each-field C.the_field Sized sized s.candidates _ candidates.0.1.1;
-      parents_sized = each-field M.the_field (λ (m : Member). Sized m.candidate) (λ m us q. sized m.candidate _ q.1.1.0) s.parents _ parents.0.1.1;
+      dims = field-length D.the_row 16 s.dims _ dims.0;
+      candidates = field-length C.the_row 224 s.candidates _ candidates.0;
+      parents = field-length M.the_row 160 s.parents _ parents.0;
+      trials = field-length T.the_row 224 s.trials _ trials.0;
+      candidates_sized = each-field C.the_row Sized sized s.candidates _ candidates.0.1.1;
+      parents_sized = each-field M.the_row (λ (m : Member). Sized m.candidate) (λ m us q. sized m.candidate _ q.1.1.0) s.parents _ parents.0.1.1;
       closed = let h = closed.0.1 in omega arith;
       idle = let h = closed.1.0.1 in omega arith;
     }

@@ -4,7 +4,7 @@ use native.Mathlib.Omega.{arith}
 use native.Mathlib.Nat.{not-suc-le-zero, le_of_suc-le-suc}
 use mathlib.Core.Path.{◌≡◌, refl, sym, ap, subst, ◌∙◌}
 use mathlib.Core.Logic.{◌≢◌}
-use mathlib.Core.Bool.{Bool, true, false, not, true≢false}
+use mathlib.Core.Bool.{Bool, true, false, true≢false}
 use mathlib.Core.List.Memᴰ
 use mathlib.Core.List.{List, [], ◌∷◌, map}
 use mathlib.Core.Option.{Option, none, some}
@@ -40,7 +40,7 @@ use Rattle.state.specs.declared.FirstTrial.{FirstTrial}
 use Rattle.state.specs.declared.State.{State}
 use Rattle.state.specs.declared.places.Limits.{Limits}
 use Rattle.state.specs.declared.sound.Counts.{Counts}
-use Rattle.state.proofs.Flags.{true-and, failed, passed}
+use Rattle.state.proofs.Flags.{true-and}
 use Rattle.state.proofs.Sizes.{size_few}
 use Rattle.state.proofs.Parts.{dims_of, parents_of, split_places}
 use Rattle.state.proofs.Whole.{count_test}
@@ -68,25 +68,25 @@ few_choices n dims e = all-few (take n dims) (split_places passes is_blank_dim n
 
 -- ---- the counts
 
-pub size_fits : (S : Setup) (v : Verdict) (t : Bool) → v ≡ setup_verdict S → t ≡ is_valid v → not t ≡ false → (nc size : ℕ) → nc ≤ 16 → size ≡ size_of S.population_size nc → size ≤ 160
-size_fits S v t e f g nc size h z = rw z (size_few S nc (sym (f ∙ ap is_valid e) ∙ passed t g) h)
+pub size_fits : (S : Setup) (v : Verdict) (t : Bool) → v ≡ setup_verdict S → t ≡ is_valid v → t ≡ true → (nc size : ℕ) → nc ≤ 16 → size ≡ size_of S.population_size nc → size ≤ 160
+size_fits S v t e f g nc size h z = rw z (size_few S nc (sym (f ∙ ap is_valid e) ∙ g) h)
 
 module _ (S : Setup) (first : FirstTrial) (d : Bool) (nc : ℕ) (c : Counts) (v : Verdict) (t : Bool) (e : v ≡ setup_verdict S) (f : t ≡ is_valid v) where
   valid-is : is_valid (setup_verdict S) ≡ t
   valid-is = sym (f ∙ ap is_valid e)
 
-  pub counts-invalid : not t ≡ true → false ≡ counts_sound S first d nc c
+  pub counts-invalid : t ≡ false → false ≡ counts_sound S first d nc c
   unfolding counts_sound
-  counts-invalid g = sym (rw (valid-is ∙ failed t g))
+  counts-invalid g = sym (rw (valid-is ∙ g))
 
-  module _ (g : not t ≡ false) (named : Bool) (q : named ≡ is_some (first_in first)) (r : Bool) where
+  module _ (g : t ≡ true) (named : Bool) (q : named ≡ is_some (first_in first)) (r : Bool) where
     pub counts-running : d ≡ true → (size : ℕ) → size ≡ size_of S.population_size nc → r ≡ running_counts named size c → r ≡ counts_sound S first d nc c
     unfolding counts_sound
-    counts-running u size z w = w ∙ sym (rw (valid-is ∙ passed t g, u, ← z, ← q))
+    counts-running u size z w = w ∙ sym (rw (valid-is ∙ g, u, ← z, ← q))
 
     pub counts-discovering : d ≡ false → r ≡ discovering_counts named c → r ≡ counts_sound S first d nc c
     unfolding counts_sound
-    counts-discovering u w = w ∙ sym (rw (valid-is ∙ passed t g, u, ← q))
+    counts-discovering u w = w ∙ sym (rw (valid-is ∙ g, u, ← q))
 
 -- ---- the best slot
 
@@ -101,6 +101,7 @@ number_of (fin s m d) e q = true≢false (ap is_number q)
 
 numbers-of : (ds : List DimensionInfo) (ms : List Member) → all (member_fits ds) ms ≡ true → Numbers (values ms)
 unfolding all
+numbers-of ds [] e a m = elim m [ ]
 numbers-of ds (m ∷ ms) e a (Memᴰ.head q) =
     subst (λ (v : Float). v ≢ nan) (sym q) (number_of m.value (true-and (fits ds m.candidate) _ (true-and (member_fits ds m) (all (member_fits ds) ms) e).0).1)
 numbers-of ds (m ∷ ms) e a (Memᴰ.tail q) = numbers-of ds ms (true-and (member_fits ds m) (all (member_fits ds) ms) e).1 a q

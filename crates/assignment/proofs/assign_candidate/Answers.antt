@@ -9,7 +9,7 @@ pub returns-then-known : goal.returns-then-known
 returns-then-known c = known_is _ _ _ _ c.if-known.true
 
 pub random_candidate-drawn-requires : goal.random_candidate-drawn-requires
-random_candidate-drawn-requires c = (space-few c.args.dims c.args.n-dims _ (search rules) c.search_space-space.ensures, space-dims c.args.dims c.args.n-dims _ (search rules) c.search_space-space.ensures, omega arith)
+random_candidate-drawn-requires c = (space-few c.args.dims c.args.n_dims _ (search rules) c.search_space-space.ensures, space-dims c.args.dims c.args.n_dims _ (search rules) c.search_space-space.ensures, omega arith)
 
 pub returns : goal.returns
 returns c = extra-is _ _ _ _ _ _ _ c.if-known.false c.search_space-space.ensures c.random_candidate-drawn.ensures c.has_nan-nan.ensures
