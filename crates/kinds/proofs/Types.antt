@@ -4,12 +4,13 @@ use native.Mathlib.Omega.{arith}
 use mathlib.Core.Path.{◌≡◌, sym, subst}
 use mathlib.Core.Bool.{true}
 use mathlib.Core.List.Memᴰ
-use mathlib.Core.List.{List, [], ◌∷◌, map}
+use mathlib.Core.List.{List, [], ◌∷◌}
 use mir.Val.{Val}
 use denote.Laws.{Is}
 use denote.Array.{each}
 use denote.Shadow.{shadow}
-use denote.Struct.Field.{Field, f64-field, u16-field}
+use denote.Builtin.{f64, u16}
+use denote.RattleType.{RattleType}
 use lib.Dec.{T}
 use lib.Ieee.{Float, binary64, fits as fits_f}
 use Rattle.distribution.specs.declared.DimensionInfo.{DimensionInfo}
@@ -44,11 +45,12 @@ use Rattle.state.specs.contracts.TrialProgress as T
 use Rattle.kinds.specs.Typed.{Double, FloatStepFits, IntStepFits, TypedDistribution, Choices, TypedState, TypedNumbers, TypedCandidate, TypedSetup}
 use Rattle.kinds.specs.Rows.{first_word, size_word}
 
-each-field : (F : Field) (P : F.Value → Type 0) → ((x : F.Value) (vs : List Val) → Is F.row (F.into x) vs → P x)
-    → (xs : List F.Value) (us : List Val) → shadow (each F.row.Denot F.row.own_val (map F.into xs) us) → All P xs
-each-field F P h (x ∷ xs) [] p a m = absurd p
-each-field F P h (x ∷ xs) (u ∷ us) p a (Memᴰ.head e) = subst P (sym e) (h x (u ∷ []) p.0)
-each-field F P h (x ∷ xs) (u ∷ us) p a (Memᴰ.tail m) = each-field F P h xs us p.1 a m
+each-field : (R : RattleType) (P : R.Denot → Type 0) → ((x : R.Denot) (vs : List Val) → Is R x vs → P x)
+    → (xs : List R.Denot) (us : List Val) → shadow (each R.Denot R.own_val xs us) → All P xs
+each-field R P h [] us p a m = elim m [ ]
+each-field R P h (x ∷ xs) [] p a m = absurd p
+each-field R P h (x ∷ xs) (u ∷ us) p a (Memᴰ.head e) = subst P (sym e) (h x (u ∷ []) p.0)
+each-field R P h (x ∷ xs) (u ∷ us) p a (Memᴰ.tail m) = each-field R P h xs us p.1 a m
 
 first_small : (z : FirstTrial) (vs : List Val) → Is (FT.the_field).row ((FT.the_field).into z) vs → first_word z < 2 ^ 64
 first_small Unnamed vs p = omega arith
@@ -80,10 +82,10 @@ choices-small (D.Float d) vs p = tt
 choices-small (D.Int d) vs p = tt
 choices-small (D.Categorical d) vs p = let h = p.1.1.1.1.0.1.1.0.1 in omega arith
 
-numbers : (c : Candidate) (vs : List Val) → Is (C.the_field).row ((C.the_field).into c) vs → All Double c.x × All (λ (k : ℕ). k < 2 ^ 16) c.choices
+numbers : (c : Candidate) (vs : List Val) → Is C.the_row c vs → All Double c.x × All (λ (k : ℕ). k < 2 ^ 16) c.choices
 numbers c vs p = (
-  each-field f64-field Double (λ x us q. double x q.1) c.x _ p.1.1.0.1.1,
-  each-field u16-field (λ (k : ℕ). k < 2 ^ 16) (λ k us q. let h = q.1 in omega arith) c.choices _ p.1.1.1.0.1.1,
+  each-field f64 Double (λ x us q. double x q.1) c.x _ p.1.1.0.1.1,
+  each-field u16 (λ (k : ℕ). k < 2 ^ 16) (λ k us q. let h = q.1 in omega arith) c.choices _ p.1.1.1.0.1.1,
 )
 
 abbrev Numbers : Candidate → Type 0
@@ -100,8 +102,8 @@ module _ (s : State) (vs : List Val) (p : Is S.the_row s vs) where
       let dims = p.1.1.1.1.1.1.1 in
       let candidates = dims.1 in
       let parents = candidates.1 in
-      let cs = each-field C.the_field Numbers numbers s.candidates _ candidates.0.1.1 in
-      let ps = each-field M.the_field (λ (m : Member). Numbers m.candidate × Double m.value) (λ m us q. (numbers m.candidate _ q.1.1.0, double m.value q.1.1.1.0.1)) s.parents _ parents.0.1.1 in
+      let cs = each-field C.the_row Numbers numbers s.candidates _ candidates.0.1.1 in
+      let ps = each-field M.the_row (λ (m : Member). Numbers m.candidate × Double m.value) (λ m us q. (numbers m.candidate _ q.1.1.0, double m.value q.1.1.1.0.1)) s.parents _ parents.0.1.1 in
       record {
         dims_length = m.dims;
         candidates_length = m.candidates;
@@ -111,7 +113,7 @@ module _ (s : State) (vs : List Val) (p : Is S.the_row s vs) where
         idle = let h = m.idle in omega arith;
         factor = double s.setup.mutation_factor setup.0.1.1.0.1;
         rate = double s.setup.crossover_rate setup.0.1.1.1.0.1;
-        dims = each-field DI.the_field (λ (d : DimensionInfo). TypedDistribution d.distribution) (λ d us q. distribution d.distribution _ q.1.1.0) s.dims _ dims.0.1.1;
+        dims = each-field DI.the_row (λ (d : DimensionInfo). TypedDistribution d.distribution) (λ d us q. distribution d.distribution _ q.1.1.0) s.dims _ dims.0.1.1;
         candidates = λ c k. typed c (m.candidates_sized c k) (cs c k);
         parents = λ y k. (typed y.candidate (m.parents_sized y k) (ps y k).0, (ps y k).1);
       }
@@ -134,8 +136,8 @@ module _ (s : State) (vs : List Val) (p : Is S.the_row s vs) where
         trials = let h = trials.0.1 in omega arith;
         best = let h = best.0.1 in omega arith;
         word = let h = best.1.0.1 in omega arith;
-        choices = each-field DI.the_field (λ (d : DimensionInfo). Choices d.distribution) (λ d us q. choices-small d.distribution _ q.1.1.0) s.dims _ dims.0.1.1;
-        numbers = each-field T.the_field (λ (t : TrialProgress). (t.number < 2 ^ 64) × (t.next_dim < 2 ^ 64))
+        choices = each-field DI.the_row (λ (d : DimensionInfo). Choices d.distribution) (λ d us q. choices-small d.distribution _ q.1.1.0) s.dims _ dims.0.1.1;
+        numbers = each-field T.the_row (λ (t : TrialProgress). (t.number < 2 ^ 64) × (t.next_dim < 2 ^ 64))
             (λ t us q. let h = q.1.1.0.1 in let k = q.1.1.1.0.1 in (omega arith, omega arith)) s.trials _ trials.1.0.1.1;
       }
 

@@ -3,15 +3,16 @@ use Prim.Native.Nat.{ℕ, zero, suc, ◌+◌, ◌-◌, ◌≤◌, ◌<◌}
 use native.Mathlib.Numerals.{add-one}
 use native.Mathlib.Omega.{arith}
 use mathlib.Core.Bool.{Bool, true, false, ◌&&◌, beq}
-use mathlib.Core.List.{List, ◌++◌, map}
+use mathlib.Core.List.{List, ◌++◌}
 use mathlib.Core.Path.{◌≡◌, refl, sym, ap, ◌∙◌}
 use borrow.Author.Tests.{eq-eqb, ne_eqb, lt-ltb, le-ltb, ltb-true, ltb-false}
 use mir.Val.{Val}
 use denote.Array.{Array}
 use denote.Laws.{Is}
-use denote.Struct.Field.{Field, u64-field, bool-field}
+use denote.Builtin.{u64, bool}
+use denote.RattleType.{RattleType}
 use lib.Dec.{eqb, ltb}
-use lib.ListN.{length, drop, get_or, replicate, length-replicate, length-map}
+use lib.ListN.{length, drop, get_or, replicate, length-replicate}
 use lib.Seq.{drop-cons, drop-length}
 use Rattle.rng_util.specs.Many.{pad_to}
 use Rattle.rng_util.proofs.Parts.{pad-length}
@@ -82,8 +83,8 @@ flags-end a m i la lm e =
 
 -- ---- a table's arrays, as its type says
 
-field-length : (F : Field) (n : ℕ) (xs : List F.Value) (vs : List Val) → Is (Array F.row n) (map F.into xs) vs → length xs ≡ n
-field-length F n xs vs p = sym (length-map xs F.into) ∙ p.1.0.1
+field-length : (R : RattleType) (n : ℕ) (xs : List R.Denot) (vs : List Val) → Is (Array R n) xs vs → length xs ≡ n
+field-length R n xs vs p = p.1.0.1
 
 pub table-long : (t : Table) (vs : List Val) → Is T.the_row t vs → (length t.words ≡ 3600) × (length t.filled ≡ 1200)
-table-long t vs p = (field-length u64-field 3600 t.words _ p.1.1.0, field-length bool-field 1200 t.filled _ p.1.1.1.0)
+table-long t vs p = (field-length u64 3600 t.words _ p.1.1.0, field-length bool 1200 t.filled _ p.1.1.1.0)

@@ -47,6 +47,7 @@ module _ (f : List ℕ) (h : Bytes f) where
 -- ---- the words of records
 
 index_of : (ws : List ℕ) (a : ℕ) → Memᴰ a ws → (i : ℕ) × (i < length ws) × (a ≡ get_or ws i 0)
+index_of [] a x' = elim x' [ ]
 index_of (w ∷ ws) a (Memᴰ.head e) = (0, omega arith, e)
 index_of (w ∷ ws) a (Memᴰ.tail m) = let r = index_of ws a m in (suc r.0, (let h = r.1 in omega arith), r.2)
 

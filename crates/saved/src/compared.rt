@@ -11,7 +11,7 @@ use state::State;
 // The table of a kind holds the state's words of that kind, at their positions and no other.
 pub fn kind_holds<'a>(state: State, words: &'a [u64], filled: &'a [bool], kind: u64) -> bool
     requires { Roomy state × (length words.now ≡ 3600) × (length filled.now ≡ 1200) × (0 < kind) × (kind ≤ 6) }
-    ensures { result ≡ holds (record { words = words.entry.now; filled = filled.now }) (kind_words state kind) }
+    ensures { result ≡ holds (record { words = words.now; filled = filled.now }) (kind_words state kind) }
 {
     let s = section_of(state, kind);
     let m = records_for(s.n);

@@ -7,11 +7,8 @@ use Rattle.kinds.specs.Rows.{dim_in}
 use Rattle.opened.proofs.Opening.{row_is, row_on, row_room, row-length}
 use Rattle.opened.proofs.open_dims.Goals as goal
 
-part-dim-in-start : tie.Need-slice-bounds-dim-in-start invariant-loop decreases-loop
-part-dim-in-start c = omega arith
-
-part-dim-in-end : tie.Need-slice-bounds-dim-in-end invariant-loop decreases-loop
-part-dim-in-end c = omega (arith, row_room c.before.before.before.args.words.now 5 c.before.loop.i c.before.loop.at c.before.loop.invariant.1.0 c.before.before.before.args.n 16 5 (omega arith) c.before.before.before.requires.0 (omega arith) (omega arith))
+pub slice_bounds-dim_in-end : goal.slice_bounds-dim_in-end
+slice_bounds-dim_in-end c = omega (arith, row_room c.args.words.now 5 c.loop-i.i c.loop-i.at c.loop-i.invariant.1.0 c.args.n 16 5 (omega arith) c.requires.0 (omega arith) (omega arith))
 
 pub loop-i-init : goal.loop-i-init
 loop-i-init c = (omega arith, (omega arith, fill-first 16 blank_dim _ _))

@@ -10,30 +10,27 @@ use Rattle.kinds.specs.Rows.{member_in}
 use Rattle.opened.proofs.Opening.{row_is, row_on, row_room, row-length}
 use Rattle.opened.proofs.open_parents.Goals as goal
 
-part-member-in-start : tie.Need-slice-bounds-member-in-start invariant-loop decreases-loop
-part-member-in-start c = omega arith
-
-part-member-in-end : tie.Need-slice-bounds-member-in-end invariant-loop decreases-loop
-part-member-in-end c = omega (arith, row_room c.before.before.before.before.args.words.now (c.before.before.before.before.args.n-dims + 1) c.before.loop.i c.before.loop.at c.before.loop.invariant.1.0 c.before.before.before.before.args.n 160 17 (omega arith) c.before.before.before.before.requires.0 (omega (arith, c.before.before.before.before.requires.1)) (omega arith))
+pub slice_bounds-member_in-end : goal.slice_bounds-member_in-end
+slice_bounds-member_in-end c = omega (arith, row_room c.args.words.now (c.args.n_dims + 1) c.loop-i.i c.loop-i.at c.loop-i.invariant.1.0 c.args.n 160 17 (omega arith) c.requires.0 (omega (arith, c.requires.1)) (omega arith))
 
 pub loop-i-init : goal.loop-i-init
 loop-i-init c =
     let args = c.args in
     let blank-member = c.blank_member-blank in
-    (omega arith, (omega arith, subst (λ (b : Member). Fill 160 blank_member (λ j. member_in (take args.n-dims args.dims) (row args.words.now (args.n-dims + 1) j)) args.n (replicate 160 b) 0) (sym blank-member.ensures) (fill-first 160 blank_member (λ j. member_in (take args.n-dims args.dims) (row args.words.now (args.n-dims + 1) j)) args.n)))
+    (omega arith, (omega arith, subst (λ (b : Member). Fill 160 blank_member (λ j. member_in (take args.n_dims args.dims) (row args.words.now (args.n_dims + 1) j)) args.n (replicate 160 b) 0) (sym blank-member.ensures) (fill-first 160 blank_member (λ j. member_in (take args.n_dims args.dims) (row args.words.now (args.n_dims + 1) j)) args.n)))
 
 pub overflow_add-end : goal.overflow_add-end
-overflow_add-end c = omega (arith, row_room c.args.words.now (c.args.n-dims + 1) c.loop-i.i c.loop-i.at c.loop-i.invariant.1.0 c.args.n 160 17 (omega arith) c.requires.0 (omega (arith, c.requires.1)) (omega arith))
+overflow_add-end c = omega (arith, row_room c.args.words.now (c.args.n_dims + 1) c.loop-i.i c.loop-i.at c.loop-i.invariant.1.0 c.args.n 160 17 (omega arith) c.requires.0 (omega (arith, c.requires.1)) (omega arith))
 
 pub offset_bounds-words-at : goal.offset_bounds-words-at
-offset_bounds-words-at c = omega (arith, row_room c.args.words.now (c.args.n-dims + 1) c.loop-i.i c.loop-i.at c.loop-i.invariant.1.0 c.args.n 160 17 (omega arith) c.requires.0 (omega (arith, c.requires.1)) (omega arith))
+offset_bounds-words-at c = omega (arith, row_room c.args.words.now (c.args.n_dims + 1) c.loop-i.i c.loop-i.at c.loop-i.invariant.1.0 c.args.n 160 17 (omega arith) c.requires.0 (omega (arith, c.requires.1)) (omega arith))
 
 pub member_in-m-requires : goal.member_in-m-requires
 member_in-m-requires c =
     let args = c.args in
     let pre = c.requires in
     let loop = c.loop-i in
-    (pre.1, omega (arith, row-length args.words.now (args.n-dims + 1) loop.i loop.at loop.invariant.1.0 (omega (arith, row_room args.words.now (args.n-dims + 1) loop.i loop.at loop.invariant.1.0 args.n 160 17 (omega arith) pre.0 (omega (arith, pre.1)) (omega arith), pre.2))))
+    (pre.1, omega (arith, row-length args.words.now (args.n_dims + 1) loop.i loop.at loop.invariant.1.0 (omega (arith, row_room args.words.now (args.n_dims + 1) loop.i loop.at loop.invariant.1.0 args.n 160 17 (omega arith) pre.0 (omega (arith, pre.1)) (omega arith), pre.2))))
 
 pub loop-i-preserved : goal.loop-i-preserved
 loop-i-preserved c =
@@ -41,7 +38,7 @@ loop-i-preserved c =
     let pre = c.requires in
     let loop = c.loop-i in
     let member-in = c.member_in-m in
-    (omega arith, (row_on args.words.now (args.n-dims + 1) loop.i loop.at loop.invariant.1.0, fill-again 160 blank_member (λ j. member_in (take args.n-dims args.dims) (row args.words.now (args.n-dims + 1) j)) args.n _ loop.i _ pre.0 (omega arith) (member-in.ensures ∙ ap (member_in (take args.n-dims args.dims)) (row_is args.words.now (args.n-dims + 1) loop.i loop.at loop.invariant.1.0)) loop.invariant.1.1))
+    (omega arith, (row_on args.words.now (args.n_dims + 1) loop.i loop.at loop.invariant.1.0, fill-again 160 blank_member (λ j. member_in (take args.n_dims args.dims) (row args.words.now (args.n_dims + 1) j)) args.n _ loop.i _ pre.0 (omega arith) (member-in.ensures ∙ ap (member_in (take args.n_dims args.dims)) (row_is args.words.now (args.n_dims + 1) loop.i loop.at loop.invariant.1.0)) loop.invariant.1.1))
 
 pub returns : goal.returns
 returns c = fill-last 160 blank_member _ _ _ c.loop-i.i (omega arith) c.loop-i.invariant.1.1

@@ -7,11 +7,8 @@ use Rattle.kinds.specs.Rows.{trial_in}
 use Rattle.opened.proofs.Opening.{row_is, row_on, row_room, row-length}
 use Rattle.opened.proofs.open_trials.Goals as goal
 
-part-trial-in-start : tie.Need-slice-bounds-trial-in-start invariant-loop decreases-loop
-part-trial-in-start c = omega arith
-
-part-trial-in-end : tie.Need-slice-bounds-trial-in-end invariant-loop decreases-loop
-part-trial-in-end c = omega (arith, row_room c.before.before.before.args.words.now 2 c.before.loop.i c.before.loop.at c.before.loop.invariant.1.0 c.before.before.before.args.n 224 2 (omega arith) c.before.before.before.requires.0 (omega arith) (omega arith))
+pub slice_bounds-trial_in-end : goal.slice_bounds-trial_in-end
+slice_bounds-trial_in-end c = omega (arith, row_room c.args.words.now 2 c.loop-i.i c.loop-i.at c.loop-i.invariant.1.0 c.args.n 224 2 (omega arith) c.requires.0 (omega arith) (omega arith))
 
 pub loop-i-init : goal.loop-i-init
 loop-i-init c = (omega arith, (omega arith, fill-first 224 blank_trial _ _))

@@ -7,8 +7,8 @@ use Rattle.opened.proofs.state_in.Goals as goal
 pub returns : goal.returns
 returns c =
     let args = c.args in
-    let setup-in = c.setup-in in
-    let word-first = c.word_first-first in
+    let setup-in = c.setup_in-setup in
+    let word_first = c.word_first-first in
     let least = c.least-d in
     let open-dims = c.open_dims-dims in
     let least2 = c.least in

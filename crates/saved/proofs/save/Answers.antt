@@ -21,7 +21,7 @@ overflow_mul-count c =
     let is-sound = c.is_sound in
     let if1 = c.if-not-is_sound in
     let record-total = c.record_total-count in
-    omega (arith, record-total.ensures, pieces-few args.state (measured args.state _ good.0) (roomy args.state (measured args.state _ good.0) (sym is-sound.ensures ∙ not-false _ if1.false)))
+    omega (arith, record-total.ensures, pieces-few args.state (measured args.state _ good.0) (roomy args.state (measured args.state _ good.0) (sym is-sound.ensures ∙ not-false _ if1.false-raw)))
 
 pub returns-then-file-count : goal.returns-then-file-count
 returns-then-file-count c = too_short c.args.state c.args.file.now (sym c.is_sound.ensures ∙ not-false _ c.if-not-is_sound.false-raw) _ c.record_total-count.ensures c.if-file-count.true
@@ -37,4 +37,4 @@ returns c =
     let record-total = c.record_total-count in
     let if2 = c.if-file-count in
     let put-state = c.put_state in
-    all-written args.state args.file.now (sym is-sound.ensures ∙ not-false _ if1.false) _ record-total.ensures if2.false _ put-state.ensures
+    all-written args.state args.file.now (sym is-sound.ensures ∙ not-false _ if1.false-raw) _ record-total.ensures if2.false _ put-state.ensures

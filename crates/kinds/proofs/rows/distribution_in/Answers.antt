@@ -3,7 +3,7 @@ use borrow.Author.Tests.{ne_eqb}
 use Rattle.kinds.proofs.rows.distribution_in.Goals as goal
 
 pub returns-then-kind-eq1 : goal.returns-then-kind-eq1
-returns-then-kind-eq1 c = rw (c.if-kind-eq1.true, c.Float-in.ensures)
+returns-then-kind-eq1 c = rw (c.if-kind-eq1.true, c.float_in.ensures)
 
 pub returns-then-kind-eq2 : goal.returns-then-kind-eq2
 returns-then-kind-eq2 c = rw (c.if-kind-eq2.true, c.int_in.ensures)

@@ -9,4 +9,4 @@ pub returns-then-stepped-eq0 : goal.returns-then-stepped-eq0
 returns-then-stepped-eq0 c = rw c.if-stepped-eq0.true
 
 pub returns : goal.returns
-returns c = rw (ne_eqb _ 0 c.if-stepped-eq0.false) (ap IS.By (own-z c.at_place.result (record { sfits = c.at_place.type-inv }) ∙ c.at_place.ensures))
+returns c = rw (ne_eqb _ 0 c.if-stepped-eq0.false) (ap IS.By (own-z c.at_place.result (record { sfits = c.at_place.type_inv }) ∙ c.at_place.ensures))

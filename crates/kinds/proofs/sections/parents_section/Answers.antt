@@ -14,7 +14,7 @@ slice_bounds-put_row-end c =
     let args = c.args in
     let loop = c.loop-i in
     let member-row = c.member_row-row in
-    row_count (member_words (take args.n-dims args.dims)) (args.n-dims + 1) args.t1 (member-width args.dims args.n-dims loop.invariant.1.1.0) _ loop.i _ member-row.ensures
+    row_count (member_words (take args.n_dims args.dims)) (args.n_dims + 1) args.parents (member-width args.dims args.n_dims loop.invariant.1.1.0) _ loop.i _ member-row.ensures
 
 pub put_row-requires : goal.put_row-requires
 put_row-requires c =
@@ -22,14 +22,14 @@ put_row-requires c =
     let pre = c.requires in
     let loop = c.loop-i in
     let member-row = c.member_row-row in
-    (omega (arith, loop.invariant.1.1.1.at_is, row_count (member_words (take args.n-dims args.dims)) (args.n-dims + 1) args.t1 (member-width args.dims args.n-dims loop.invariant.1.1.0) _ loop.i _ member-row.ensures, room loop.i args.n (args.n-dims + 1) 160 17 (omega arith) (omega (arith, pre.0)) (omega (arith, pre.1)) (omega arith)), loop.invariant.1.1.1.long)
+    (omega (arith, loop.invariant.1.1.1.at_is, row_count (member_words (take args.n_dims args.dims)) (args.n_dims + 1) args.parents (member-width args.dims args.n_dims loop.invariant.1.1.0) _ loop.i _ member-row.ensures, room loop.i args.n (args.n_dims + 1) 160 17 (omega arith) (omega (arith, pre.0)) (omega (arith, pre.1)) (omega arith)), loop.invariant.1.1.1.long)
 
 pub overflow_add-at : goal.overflow_add-at
 overflow_add-at c =
     let args = c.args in
     let pre = c.requires in
     let loop = c.loop-i in
-    omega (arith, loop.invariant.1.1.1.at_is, room loop.i args.n (args.n-dims + 1) 160 17 (omega arith) (omega (arith, pre.0)) (omega (arith, pre.1)) (omega arith))
+    omega (arith, loop.invariant.1.1.1.at_is, room loop.i args.n (args.n_dims + 1) 160 17 (omega arith) (omega (arith, pre.0)) (omega (arith, pre.1)) (omega arith))
 
 pub loop-i-preserved : goal.loop-i-preserved
 loop-i-preserved c =
@@ -38,7 +38,7 @@ loop-i-preserved c =
     let loop = c.loop-i in
     let member-row = c.member_row-row in
     let put-row = c.put_row in
-    (omega arith, (loop.invariant.1.0, (loop.invariant.1.1.0, next_row (member_words (take args.n-dims args.dims)) (args.n-dims + 1) args.t1 (member-width args.dims args.n-dims loop.invariant.1.1.0) _ loop.i _ member-row.ensures loop.words _ loop.at (omega (arith, loop.invariant.1.0)) (omega (arith, loop.invariant.1.1.1.at_is, room loop.i args.n (args.n-dims + 1) 160 17 (omega arith) (omega (arith, pre.0)) (omega (arith, pre.1)) (omega arith))) put-row.ensures loop.invariant.1.1.1)))
+    (omega arith, (loop.invariant.1.0, (loop.invariant.1.1.0, next_row (member_words (take args.n_dims args.dims)) (args.n_dims + 1) args.parents (member-width args.dims args.n_dims loop.invariant.1.1.0) _ loop.i _ member-row.ensures loop.words _ loop.at (omega (arith, loop.invariant.1.0)) (omega (arith, loop.invariant.1.1.1.at_is, room loop.i args.n (args.n_dims + 1) 160 17 (omega arith) (omega (arith, pre.0)) (omega (arith, pre.1)) (omega arith))) put-row.ensures loop.invariant.1.1.1)))
 
 pub returns : goal.returns
-returns c = last (member_words (take c.args.n-dims c.args.dims)) (c.args.n-dims + 1) _ _ c.loop-i.at c.loop-i.i c.args.n (omega arith) c.loop-i.invariant.1.1.1
+returns c = last (member_words (take c.args.n_dims c.args.dims)) (c.args.n_dims + 1) _ _ c.loop-i.at c.loop-i.i c.args.n (omega arith) c.loop-i.invariant.1.1.1

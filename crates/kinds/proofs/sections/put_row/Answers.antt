@@ -13,7 +13,7 @@ loop-j-init c = (omega arith, paste-zero c.args.words.now c.args.at c.args.row.n
 pub loop-j-preserved : goal.loop-j-preserved
 loop-j-preserved c =
     let args = c.args in
-    let loop = c.loop in
+    let loop = c.loop-j in
     (omega arith, ap (λ (l : List ℕ). set l (args.at + loop.j) (get_or args.row.now loop.j 0)) loop.invariant.1 ∙ paste-next args.words.now args.row.now args.at loop.j (omega arith) (omega arith), loop.invariant.2)
 
 pub returns : goal.returns

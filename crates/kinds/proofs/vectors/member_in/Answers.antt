@@ -8,4 +8,4 @@ use Rattle.kinds.specs.Rows.{word_double}
 use Rattle.kinds.proofs.vectors.member_in.Goals as goal
 
 pub returns : goal.returns
-returns c = λ i. record { candidate = c.candidate_in-candidate.ensures i; value = (c.real.ensures ∙ ap (λ (k : ℕ). word_double (get_or c.args.row.now k 0)) (sym (length-take-le c.args.n-dims c.args.dims (search rules)))) i }
+returns c = λ i. record { candidate = c.candidate_in-candidate.ensures i; value = (c.real.ensures ∙ ap (λ (k : ℕ). word_double (get_or c.args.row.now k 0)) (sym (length-take-le c.args.n_dims c.args.dims (search rules)))) i }
