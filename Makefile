@@ -8,8 +8,8 @@ PREFIX ?= /usr/local
 SHIPPED := lib/x86_64-linux
 VERSION := $(shell sed -n 's/^.define DE_VERSION "\(.*\)"/\1/p' include/emkhurtov.h)
 
-# The Rattle files that the library is made of: those of exports and of the crates that it stands on.
-CRATES := $(shell tac crates.txt | awk -F: '$$1 == "exports" || $$1 in below { print $$1; split($$2, d, " "); for (i in d) below[d[i]] }')
+# The Rattle files that the library is made of: those of exports_c and of the crates that it stands on.
+CRATES := $(shell tac crates.txt | awk -F: '{ split($$1, w, " ") } w[1] == "exports_c" || w[1] in below { print w[1]; split($$2, d, " "); for (i in d) below[d[i]] }')
 RATTLE := $(shell find $(CRATES:%=crates/%) -name '*.rt' -o -name '*.antt')
 
 # The campaign of a gateway's disk: trials, best setting, generations. It needs a C compiler and nothing else.
@@ -27,21 +27,20 @@ test:
 
 # What changed since the last check, and what stands on it.
 check:
-	rt check
+	rt all check
 
 fmt:
-	rt fmt
+	@for c in crates/*/; do (cd $$c && rt fmt) || exit 1; done
 
-# The library from the proved crates: target/lib/libemkhurtov.a. `rt staticlib` proves the crate exports each time that it
-# is called, so it is called only where a Rattle file has changed.
+# The library from the proved crates: target/lib/libemkhurtov.a. Its proved half is the static library exports_c, which has
+# an object of its own with the calls of the header.
 lib: target/lib/libemkhurtov.a
 
-target/staticlib/libexports.a: crates.txt $(RATTLE)
+crates/exports_c/out/libexports_c.a: crates.txt $(RATTLE)
 	@mkdir -p target/lib
 	@command -v rt >/dev/null || { echo "make: the library is built by the Rattle toolchain, and rt is not on the PATH." >&2; exit 1; }
-	@echo "exports, proved and compiled, and first what it stands on where that has changed (target/lib/rt.log) .."
-	@{ rt staticlib exports || echo "not built"; } 2>&1 | tee target/lib/rt.log | sed -un '/unchanged/d;s/^rt: \(.* proved (.*\)/  \1/p'
-	@! grep -qx "not built" target/lib/rt.log || { tail -n 40 target/lib/rt.log; exit 1; }
+	@echo "exports_c, proved and compiled, and first what it stands on where that has changed (target/lib/rt.log) .."
+	@(cd crates/exports_c && rt lib) >target/lib/rt.log 2>&1 || { tail -n 40 target/lib/rt.log; exit 1; }
 
 # The C beside the proved code. Nothing of the folder, the time, the language or the caller's flags goes into the object.
 target/lib/emkhurtov.o: bindings/c/emkhurtov.c include/emkhurtov.h
@@ -49,9 +48,9 @@ target/lib/emkhurtov.o: bindings/c/emkhurtov.c include/emkhurtov.h
 	@LC_ALL=C $(CC) -std=c11 -O2 -fPIC -g0 -fno-ident -ffile-prefix-map="$(CURDIR)"=. -Wall -Wextra -Wpedantic -Werror \
 		-I include -c $< -o $@
 
-target/lib/libemkhurtov.a: target/staticlib/libexports.a target/lib/emkhurtov.o
+target/lib/libemkhurtov.a: crates/exports_c/out/libexports_c.a target/lib/emkhurtov.o
 	@rm -f $@
-	@ar p $< exports.o >target/lib/exports.o
+	@ar p $< >target/lib/exports.o
 	@ar rcsD $@ target/lib/exports.o target/lib/emkhurtov.o
 
 # Builds the library and puts it, with its hash and what it was built with, where it ships: after a change of the library.
@@ -74,11 +73,15 @@ install:
 
 # The program that runs campaign scripts: target/bin/replay.
 replay:
-	rt check replay
+	@mkdir -p target/bin
+	cd crates/replay && rt run </dev/null
+	cp crates/replay/out/replay target/bin/
 
 # The program that writes a metrics export as `tell` lines: target/bin/tells.
 tells:
-	rt check tells
+	@mkdir -p target/bin
+	cd crates/tells && rt run </dev/null
+	cp crates/tells/out/tells target/bin/
 
 # Five million calls through the Rust and through `replay`, every answer and state compared (docs/ORACLE.md).
 compare: replay
@@ -95,7 +98,9 @@ callers: replay
 # Times, ratios and memory against the Rust original in one run, the parts of a call, and the largest counts of draws next
 # to their ceilings (docs/BENCHMARKS.md): of the library as it is built here, shipped or not yet.
 bench: lib
-	rt check bench
+	@mkdir -p target/bin
+	cd crates/bench && rt run
+	cp crates/bench/out/bench target/bin/
 	target/bin/bench run
 	cd bench && EMKHURTOV_LIB="$(CURDIR)/target/lib" cargo build --quiet --release --locked --offline
 	target/bench/release/bench
