@@ -4,13 +4,13 @@ use Rattle.de.proofs.Ceilings.{slot-few, no_slots, no-dims, before-slots, with-s
 use Rattle.de.proofs.ceiling.draw_ceiling.Goals as goal
 
 pub returns-then-n-gt160 : goal.returns-then-n-gt160
-returns-then-n-gt160 c = no_slots _ c.args.n c.args.n-dims c.if-n-gt160.true
+returns-then-n-gt160 c = no_slots _ c.args.n c.args.n_dims c.if-n-gt160.true
 
 pub returns-then-n_dims-gt16 : goal.returns-then-n_dims-gt16
-returns-then-n_dims-gt16 c = no-dims _ c.args.n c.args.n-dims c.if-n-gt160.false c.if-n_dims-gt16.true
+returns-then-n_dims-gt16 c = no-dims _ c.args.n c.args.n_dims c.if-n-gt160.false c.if-n_dims-gt16.true
 
 pub returns-then-n-eq0 : goal.returns-then-n-eq0
-returns-then-n-eq0 c = before-slots _ c.args.n c.args.n-dims c.if-n-gt160.false c.if-n_dims-gt16.false c.if-n-eq0.true
+returns-then-n-eq0 c = before-slots _ c.args.n c.args.n_dims c.if-n-gt160.false c.if-n_dims-gt16.false c.if-n-eq0.true
 
 pub overflow_add-result : goal.overflow_add-result
 overflow_add-result c = omega (arith, c.per_slot.ensures, slot-few c.args.strategy, c.if-n_dims-gt16.false)
@@ -18,9 +18,9 @@ overflow_add-result c = omega (arith, c.per_slot.ensures, slot-few c.args.strate
 pub overflow_mul-result : goal.overflow_mul-result
 overflow_mul-result c =
     let a = c.args in
-    rw c.per_slot.ensures (omega (arith, generation-most a.strategy a.n a.n-dims c.if-n-gt160.false c.if-n_dims-gt16.false))
+    rw c.per_slot.ensures (omega (arith, generation-most a.strategy a.n a.n_dims c.if-n-gt160.false c.if-n_dims-gt16.false))
 
 pub returns : goal.returns
 returns c =
     let a = c.args in
-    rw c.per_slot.ensures (with-slots a.strategy a.n a.n-dims c.if-n-gt160.false c.if-n_dims-gt16.false c.if-n-eq0.false)
+    rw c.per_slot.ensures (with-slots a.strategy a.n a.n_dims c.if-n-gt160.false c.if-n_dims-gt16.false c.if-n-eq0.false)

@@ -1,14 +1,9 @@
 -- `sample_any` meets its contract: the state is judged, then the refusals, then the call is accepted; Sampling has each way out.
-use mathlib.Core.Path.{◌≡◌, sym, ◌∙◌}
+use mathlib.Core.Path.{sym, ◌∙◌}
 use borrow.Author.Rules.{rules}
-use lib.ListN.{length}
 use Rattle.state.proofs.Measured.{measured}
 use Rattle.de.proofs.Sampling as By
 use Rattle.de.proofs.sample.sample_any.Goals as goal
-
--- the array of results has 160 places
-long : (c : tie.Start) → length c.args.g.values ≡ 160
-long c = search rules
 
 pub closes_now-closes-requires : goal.closes_now-closes-requires
 closes_now-closes-requires c = (By.few c.args.state (measured c.args.state _ c.well_formed.0) (sym c.is_sound.ensures ∙ c.if-is_sound.true) c.args.d c.args.trial c.args.g).slots
@@ -23,7 +18,7 @@ pub returns-in-Refused : goal.returns-in-Refused
 returns-in-Refused c = By.refused c.args.state (measured c.args.state _ c.well_formed.0) (sym c.is_sound.ensures ∙ c.if-is_sound.true) c.args.d c.args.trial c.args.g _ c.closes_now-closes.ensures _ c.place_of-place.ensures _ c.discovers-of_discovery.ensures _ c.count_refusal-counts.ensures _ c.refusal_of-verdict.ensures _ c.in-Refused.is
 
 pub accept-a-requires : goal.accept-a-requires
-accept-a-requires c = By.acceptable c.args.state (measured c.args.state _ c.well_formed.0) (sym c.is_sound.ensures ∙ c.if-is_sound.true) c.args.d c.args.trial c.args.g _ c.closes_now-closes.ensures _ c.place_of-place.ensures _ c.discovers-of_discovery.ensures _ c.count_refusal-counts.ensures _ c.refusal_of-verdict.ensures c.in-Valid.is (long c) c.requires
+accept-a-requires c = By.acceptable c.args.state (measured c.args.state _ c.well_formed.0) (sym c.is_sound.ensures ∙ c.if-is_sound.true) c.args.d c.args.trial c.args.g _ c.closes_now-closes.ensures _ c.place_of-place.ensures _ c.discovers-of_discovery.ensures _ c.count_refusal-counts.ensures _ c.refusal_of-verdict.ensures c.in-Valid.is (search rules) c.requires
 
 pub returns-then-a : goal.returns-then-a
 returns-then-a c = By.given c.args.state (measured c.args.state _ c.well_formed.0) (sym c.is_sound.ensures ∙ c.if-is_sound.true) c.args.d c.args.trial c.args.g _ c.closes_now-closes.ensures _ c.place_of-place.ensures _ c.discovers-of_discovery.ensures _ c.count_refusal-counts.ensures _ c.refusal_of-verdict.ensures c.in-Valid.is _ c.accept-a.ensures c.if-a.true
