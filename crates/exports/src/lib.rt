@@ -29,8 +29,7 @@ use layout::marks::{DeMarks, marked};
 use metrics::read_history;
 
 // A state from a set-up. What is lent is written only where the set-up is accepted, and never read.
-#[unsafe(no_mangle)]
-pub extern "C" fn de_new(state: &mut DeState, setup: DeSetup) -> DeAnswer
+pub fn de_new(state: &mut DeState, setup: DeSetup) -> DeAnswer
     ensures { (result ≡ new_answer setup) × (state.new ≡ new_state state.old setup) }
 {
     let o = settle_setup(setup);
@@ -41,8 +40,7 @@ pub extern "C" fn de_new(state: &mut DeState, setup: DeSetup) -> DeAnswer
 }
 
 // A sample call. The lent state is written only where there is a setting.
-#[unsafe(no_mangle)]
-pub extern "C" fn de_sample(
+pub fn de_sample(
     state: &mut DeState,
     call: DeCall,
     history: &[CompletedTrial],
@@ -58,8 +56,7 @@ pub extern "C" fn de_sample(
     o.answer
 }
 
-#[unsafe(no_mangle)]
-pub extern "C" fn de_look(state: &DeState) -> DeLook
+pub fn de_look(state: &DeState) -> DeLook
     ensures { result ≡ look_at state.now }
 {
     let s = *state;
@@ -67,16 +64,14 @@ pub extern "C" fn de_look(state: &DeState) -> DeLook
 }
 
 // The setting that a slot holds in a dimension.
-#[unsafe(no_mangle)]
-pub extern "C" fn de_slot_setting(state: &DeState, slot: u64, dimension: u64) -> DeAnswer
+pub fn de_slot_setting(state: &DeState, slot: u64, dimension: u64) -> DeAnswer
     ensures { result ≡ held_at state.now slot dimension }
 {
     let s = *state;
     held_at(s, slot, dimension)
 }
 
-#[unsafe(no_mangle)]
-pub extern "C" fn de_to_internal(distribution: DeDistribution, setting: DeSetting) -> DeInternal
+pub fn de_to_internal(distribution: DeDistribution, setting: DeSetting) -> DeInternal
     ensures { result ≡ internal_of distribution setting }
 {
     internal_of(distribution, setting)
@@ -84,8 +79,7 @@ pub extern "C" fn de_to_internal(distribution: DeDistribution, setting: DeSettin
 
 // What a sample call draws at most that leaves n, n_dims and the set-up's strategy in the state. No state that is sound has
 // another strategy, and there it is 0.
-#[unsafe(no_mangle)]
-pub extern "C" fn de_draw_ceiling(n: u64, n_dims: u64, strategy: u64) -> u64
+pub fn de_draw_ceiling(n: u64, n_dims: u64, strategy: u64) -> u64
     ensures { result ≡ ceiling_at n n_dims strategy }
 {
     if strategy > 2 {
@@ -95,8 +89,7 @@ pub extern "C" fn de_draw_ceiling(n: u64, n_dims: u64, strategy: u64) -> u64
 }
 
 // The state as a saved file (docs/SAVED.md). A refusal leaves the lent file as it was.
-#[unsafe(no_mangle)]
-pub extern "C" fn de_save(state: &DeState, file: &mut [u8]) -> DeFile
+pub fn de_save(state: &DeState, file: &mut [u8]) -> DeFile
     ensures { (result ≡ save_answer state.now (length file.old)) × (file.new ≡ save_file state.now file.old) }
 {
     let s = *state;
@@ -104,8 +97,7 @@ pub extern "C" fn de_save(state: &DeState, file: &mut [u8]) -> DeFile
 }
 
 // The state of a saved file. What is lent is written only where the file is taken, and never read.
-#[unsafe(no_mangle)]
-pub extern "C" fn de_restore(state: &mut DeState, file: &[u8]) -> DeFile
+pub fn de_restore(state: &mut DeState, file: &[u8]) -> DeFile
     ensures { (result ≡ restore_answer file.now) × (state.new ≡ restore_state state.old file.now) }
 {
     let r = read_file(file);
@@ -117,8 +109,7 @@ pub extern "C" fn de_restore(state: &mut DeState, file: &[u8]) -> DeFile
 }
 
 // The entries of a metrics export, into the lent history. A refusal leaves it as it was.
-#[unsafe(no_mangle)]
-pub extern "C" fn de_read_history(text: &[u8], history: &mut [CompletedTrial]) -> DeRead
+pub fn de_read_history(text: &[u8], history: &mut [CompletedTrial]) -> DeRead
     ensures { (result ≡ read_answer text.now (length history.old)) × (history.new ≡ read_history text.now history.old) }
 {
     let answer = read_history(text, history);
@@ -126,8 +117,7 @@ pub extern "C" fn de_read_history(text: &[u8], history: &mut [CompletedTrial]) -
 }
 
 // The layout that the library has.
-#[unsafe(no_mangle)]
-pub extern "C" fn de_marks() -> DeMarks
+pub fn de_marks() -> DeMarks
     ensures { result ≡ marks }
 {
     marked()

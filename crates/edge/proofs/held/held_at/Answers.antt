@@ -6,7 +6,7 @@ use Rattle.edge.proofs.held.held_at.Goals as goal
 
 pub returns-then-known_state : goal.returns-then-known_state
 unfolding held_at
-returns-then-known_state c = rw (sym (c.known_state.ensures ∙ ap (known_with _) c.known_dims.ensures) ∙ c.if-known_state.true, c.held_answer.ensures, c.slot_setting-held.ensures.0, c.«open».ensures, c.open_dims-dims.ensures)
+returns-then-known_state c = rw (sym (c.known_state.ensures ∙ ap (known_with _) c.known_dims.ensures) ∙ c.if-known_state.true, c.held_answer.ensures, c.slot_setting-held.ensures.0, c.open-state.ensures, c.open_dims-dims.ensures)
 
 pub returns : goal.returns
 unfolding held_at
