@@ -24,7 +24,9 @@ no_place = record { plain = false; place = 0 }
 unfoldable pub plain_at : Bool → ℕ → ℕ → List TrialProgress → Distribution → ℕ → Bool → List Bool → PlainPlace
 plain_at discovered n T ts d trial nan found =
     record {
-      plain = discovered && not (closes_now discovered n T found) && ltb (place_in (open_numbers T ts) trial) (cond discovered (max n T) 0) && is_valid (first_refusal d nan Valid);
+      plain =
+          discovered && not (closes_now discovered n T found) && ltb (place_in (open_numbers T ts) trial) (cond discovered (max n T) 0)
+          && is_valid (first_refusal d nan Valid);
       place = place_in (open_numbers T ts) trial;
     }
 

@@ -43,7 +43,16 @@ module _ (K : Kernel) where
       record {
         setting = m.out;
         draws = m.gen.draws;
-        state = record { word = m.gen.word; first = s.first; dims = s.dims; size = s.size; candidates = cs; trials = move (length s.dims) s.trials c.number; slots = s.slots };
+        state =
+            record {
+              word = m.gen.word;
+              first = s.first;
+              dims = s.dims;
+              size = s.size;
+              candidates = cs;
+              trials = move (length s.dims) s.trials c.number;
+              slots = s.slots;
+            };
       }
 
   -- the call of a trial whose candidate is y

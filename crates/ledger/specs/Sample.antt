@@ -32,7 +32,16 @@ module _ (K : Kernel) where
       record {
         setting = m.out;
         draws = m.gen.draws;
-        state = record { word = m.gen.word; first = some c.number; dims = s.dims ++ (c.distribution ∷ []); size = none; candidates = s.candidates; trials = s.trials; slots = s.slots };
+        state =
+            record {
+              word = m.gen.word;
+              first = some c.number;
+              dims = s.dims ++ (c.distribution ∷ []);
+              size = none;
+              candidates = s.candidates;
+              trials = s.trials;
+              slots = s.slots;
+            };
       }
 
   -- discovery has ended: N is fixed, and there are candidates
