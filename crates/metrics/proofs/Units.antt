@@ -8,7 +8,7 @@ use native.Mathlib.Omega.{arith}
 use lib.IntN.{ℤ, pos, negsuc}
 use lib.Dec.{T, leb, ltb, eqb, leb→le, ltb→lt}
 use lib.Pow.{pow-add, pow_pos, pow_mono, pow-lt, shl_lt}
-use lib.Ieee.{Float, fin, Format, prec, emax, low, up, down, size, units, fits, to_bits, of_bits, hid, ones, top}
+use lib.Ieee.{Float, fin, Format, prec, emax, low, up, down, size, units, fits, to_bits, of_bits, hid, ones, top, inf, nan}
 use lib.Ieee.Bits.{of_bits-to_bits}
 use lib.Ieee.Digits.{size_reaches, back}
 use lib.Ieee.Exact.{HasValue}
@@ -132,6 +132,8 @@ scaled like a c d l w x v =
 pub apart-is : (f : Format) (s : Bool) (a c : ℕ) (x : Float) (t : Bool) (w : ℕ) → HasValue x t w (2 ^ low f) → apart s a c x * 2 ^ low f ≡ away (beq s t) (a * 2 ^ low f) c w * den x
 apart-is f s a c (fin u m e) t w v =
     scaled (beq s u) a c (down e) (2 ^ low f) (m * up e) w v.1 ∙ ap (λ (b : Bool). away (beq s b) (a * 2 ^ low f) c w * down e) v.0
+apart-is f s a c nan t w v = elim v [ ]
+apart-is f s a c (inf _) t w v = elim v [ ]
 
 -- p / (l ..) and r / (l ..) are the distances y * d and z * e in units
 pub cross : (p r y z d e l : ℕ) → 0 < l → p * l ≡ y * d → r * l ≡ z * e → y ≤ z → p * e ≤ r * d
@@ -156,6 +158,8 @@ bits-by-value f (fin u m e) s w v =
     let is : m * up e * 2 ^ low f / down e ≡ w = ap (λ (z : ℕ). z / down e) v.1 ∙ mul-div_cancel w (down_pos e) in
     ap (λ (z : ℕ). cond u (top f) 0 + (size z - prec f) * hid f + z / 2 ^ (size z - prec f)) is
     ∙ ap (λ (b : Bool). cond b (top f) 0 + (size w - prec f) * hid f + w / 2 ^ (size w - prec f)) v.0
+bits-by-value f nan s w v = elim v [ ]
+bits-by-value f (inf _) s w v = elim v [ ]
 
 pub same-double : (f : Format) (x y : Float) (s : Bool) (w : ℕ) → T (fits f x) → T (fits f y) → HasValue x s w (2 ^ low f) → HasValue y s w (2 ^ low f) → x ≡ y
 same-double f x y s w p r v u = sym (of_bits-to_bits f x p) ∙ ap (of_bits f) (bits-by-value f x s w v ∙ sym (bits-by-value f y s w u)) ∙ of_bits-to_bits f y r

@@ -55,5 +55,5 @@ pub fn word(line: &[u8], k: usize) -> &[u8]
 pub fn is(word: &[u8], keyword: &[u8]) -> bool
     ensures { result ≡ same_bytes word.now keyword.now }
 {
-    check::same(word, keyword)
+    word == keyword
 }

@@ -63,12 +63,13 @@ returns c =
     let x = export_of c.args.text.now in
     let n = count-is c.least-places.result x c.judge-answer.result c.to_write-n.result c.judge-answer.ensures c.to_write-n.ensures in
     let m = c.least-places.ensures in
-    let ts = chosen c.least-places.result x in (
-      c.judge-answer.ensures ∙ ap (λ (p : ℕ). answer_of p x) m,
-      (
+    let ts = chosen c.least-places.result x in
+    record {
+      answer = c.judge-answer.ensures ∙ ap (λ (p : ℕ). answer_of p x) m;
+      numbers =
         write_done number_of ts c.loop-i.i c.loop-i.numbers _ (omega arith) c.loop-i.invariant.4
-            ∙ left_is number_of c.least-places.result x c.args.numbers.now (omega arith) ∙ ap (λ (p : ℕ). left_in number_of p x c.args.numbers.now) m,
+        ∙ left_is number_of c.least-places.result x c.args.numbers.now (omega arith) ∙ ap (λ (p : ℕ). left_in number_of p x c.args.numbers.now) m;
+      values =
         write_done value_of ts c.loop-i.i c.loop-i.values _ (omega arith) c.loop-i.invariant.5
-            ∙ left_is value_of c.least-places.result x c.args.values.now (omega arith) ∙ ap (λ (p : ℕ). left_in value_of p x c.args.values.now) m,
-      ),
-    )
+        ∙ left_is value_of c.least-places.result x c.args.values.now (omega arith) ∙ ap (λ (p : ℕ). left_in value_of p x c.args.values.now) m;
+    }

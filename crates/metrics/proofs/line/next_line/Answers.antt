@@ -4,18 +4,12 @@ use native.Mathlib.Omega.{arith}
 use Rattle.metrics.proofs.Lines.{next-none, next_last, next-entry, next-malformed}
 use Rattle.metrics.proofs.line.next_line.Goals as goal
 
-part-read-line-start : tie.Need-slice-bounds-read-line-start
-part-read-line-start c = search rules
-
-part-read-line-end : tie.Need-slice-bounds-read-line-end
-part-read-line-end c = search rules
-
 pub returns-then-text-at : goal.returns-then-text-at
 returns-then-text-at c = next-none c.args.text.now c.args.at (omega arith)
 
 pub returns-then-end-text : goal.returns-then-end-text
 returns-then-end-text c =
-    next_last c.args.text.now c.args.at c.piece_end-end.result (omega arith) c.piece_end-end.ensures.0 c.if-end-text.true
+    next_last c.args.text.now c.args.at c.piece_end-end.result (omega arith) c.piece_end-end.ensures.found c.if-end-text.true
 
 pub enum_known-e : goal.enum_known-e
 enum_known-e c = c.in-Entry.in-Entry-own.keys1
@@ -25,8 +19,8 @@ enum_told-1 c = c.in-Malformed.in-Malformed-own.keys2
 
 pub returns-in-Entry : goal.returns-in-Entry
 returns-in-Entry c =
-    next-entry c.args.text.now c.args.at c.piece_end-end.result (omega arith) c.piece_end-end.ensures.0 c.read_line.result _ c.if-end-text.false c.read_line.ensures c.in-Entry.is
+    next-entry c.args.text.now c.args.at c.piece_end-end.result (omega arith) c.piece_end-end.ensures.found c.read_line.result _ c.if-end-text.false c.read_line.ensures c.in-Entry.is
 
 pub returns-in-Malformed : goal.returns-in-Malformed
 returns-in-Malformed c =
-    next-malformed c.args.text.now c.args.at c.piece_end-end.result (omega arith) c.piece_end-end.ensures.0 c.read_line.result c.if-end-text.false c.read_line.ensures c.in-Malformed.is
+    next-malformed c.args.text.now c.args.at c.piece_end-end.result (omega arith) c.piece_end-end.ensures.found c.read_line.result c.if-end-text.false c.read_line.ensures c.in-Malformed.is

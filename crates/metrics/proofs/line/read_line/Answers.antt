@@ -4,20 +4,8 @@ use mathlib.Core.Path.{sym, ◌∙◌}
 use Rattle.metrics.proofs.Words.{no-comma, with-comma, bad-number}
 use Rattle.metrics.proofs.line.read_line.Goals as goal
 
-part-read-number-start : tie.Need-slice-bounds-read-number-start
-part-read-number-start c = search rules
-
-part-read-number-end : tie.Need-slice-bounds-read-number-end
-part-read-number-end c = search rules
-
-part-read-value-start : tie.Need-slice-bounds-read-value-start
-part-read-value-start c = search rules
-
-part-read-value-end : tie.Need-slice-bounds-read-value-end
-part-read-value-end c = search rules
-
 pub returns-then-p-line : goal.returns-then-p-line
-returns-then-p-line c = no-comma c.args.line.now c.piece_end-p.result c.piece_end-p.ensures.0 c.if-p-line.true
+returns-then-p-line c = no-comma c.args.line.now c.piece_end-p.result c.piece_end-p.ensures.found c.if-p-line.true
 
 pub enum_known-number : goal.enum_known-number
 enum_known-number c = c.in-Is.in-Is-own.keys1
@@ -33,12 +21,12 @@ enum_told-in-Not c = c.in-Not.in-Not-own.keys2
 
 pub returns-in-Is-read_value : goal.returns-in-Is-read_value
 returns-in-Is-read_value c =
-    with-comma c.args.line.now c.piece_end-p.result c.piece_end-p.ensures.0 _ _ c.if-p-line.false (sym c.in-Is.is ∙ c.read_number.ensures) (sym c.in-Is-read_value.is ∙ c.read_value.ensures)
+    with-comma c.args.line.now c.piece_end-p.result c.piece_end-p.ensures.found _ _ c.if-p-line.false (sym c.in-Is.is ∙ c.read_number.ensures) (sym c.in-Is-read_value.is ∙ c.read_value.ensures)
 
 pub returns-in-Not-read_value : goal.returns-in-Not-read_value
 returns-in-Not-read_value c =
-    with-comma c.args.line.now c.piece_end-p.result c.piece_end-p.ensures.0 _ _ c.if-p-line.false (sym c.in-Is.is ∙ c.read_number.ensures) (sym c.in-Not-read_value.is ∙ c.read_value.ensures)
+    with-comma c.args.line.now c.piece_end-p.result c.piece_end-p.ensures.found _ _ c.if-p-line.false (sym c.in-Is.is ∙ c.read_number.ensures) (sym c.in-Not-read_value.is ∙ c.read_value.ensures)
 
 pub returns-in-Not : goal.returns-in-Not
 returns-in-Not c =
-    bad-number c.args.line.now c.piece_end-p.result c.piece_end-p.ensures.0 c.read_number.result c.if-p-line.false c.read_number.ensures c.in-Not.is
+    bad-number c.args.line.now c.piece_end-p.result c.piece_end-p.ensures.found c.read_number.result c.if-p-line.false c.read_number.ensures c.in-Not.is

@@ -25,7 +25,11 @@ overflow_add-a c =
     record { fits = omega (arith, product-fits false c.args.whole.now c.args.fraction.now (omega arith) (omega arith) _ _ (sym c.in-Is.is ∙ c.number.ensures) (sym c.in-Is-number.is ∙ c.number-in-Is.ensures) c.pow10.result c.pow10.ensures) }
 
 pub nearest-requires : goal.nearest-requires
-nearest-requires c = (product-fits false c.args.whole.now c.args.fraction.now (omega arith) (omega arith) _ _ (sym c.in-Is.is ∙ c.number.ensures) (sym c.in-Is-number.is ∙ c.number-in-Is.ensures) c.pow10.result c.pow10.ensures, omega arith)
+nearest-requires c =
+    record {
+      m_bound = product-fits false c.args.whole.now c.args.fraction.now (omega arith) (omega arith) _ _ (sym c.in-Is.is ∙ c.number.ensures) (sym c.in-Is-number.is ∙ c.number-in-Is.ensures) c.pow10.result c.pow10.ensures;
+      k_bound = omega arith;
+    }
 
 pub returns-in-Is-number : goal.returns-in-Is-number
 returns-in-Is-number c =

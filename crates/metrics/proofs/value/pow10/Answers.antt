@@ -14,9 +14,6 @@ powers = 1 ∷ 10 ∷ 100 ∷ 1000 ∷ 10000 ∷ 100000 ∷ 1000000 ∷ 10000000
 right : ℕ → ℕ → Bool
 right k x = eqb x (10 ^ k)
 
-array-read-result : tie.Need-array-read-result
-array-read-result c = search rules
-
 pub returns : goal.returns
 unfolding powers right
 returns c = eqb→eq (get_or powers c.args.k 0) (10 ^ c.args.k) (at right powers tt c.args.k (search rules))

@@ -5,12 +5,6 @@ use mathlib.Core.Path.{sym, ap, ◌∙◌}
 use Rattle.metrics.proofs.Words.{neg_word, value_none, value-minus, value-plain}
 use Rattle.metrics.proofs.value.read_value.Goals as goal
 
-part-unsigned-start : tie.Need-slice-bounds-unsigned-start
-part-unsigned-start c = search rules
-
-part-unsigned-end : tie.Need-slice-bounds-unsigned-end
-part-unsigned-end c = search rules
-
 pub returns-then-s-eq0 : goal.returns-then-s-eq0
 returns-then-s-eq0 c = value_none c.args.s.now c.if-s-eq0.true
 

@@ -3,12 +3,6 @@ use mathlib.Core.Path.{refl}
 use Rattle.script.specs.Commands.{choice_line}
 use Rattle.script.proofs.command.choice.Goals as goal
 
-slice-aggregate-key-is : tie.Need-slice-aggregate-key-is
-slice-aggregate-key-is c = refl
-
-slice-aggregate-key-is-2 : tie.Need-slice-aggregate-key-is-2
-slice-aggregate-key-is-2 c = refl
-
 pub enum_known-number : goal.enum_known-number
 enum_known-number c = c.in-Is.in-Is-own.keys1
 
@@ -19,8 +13,8 @@ pub returns-in_default : goal.returns-in_default
 unfolding choice_line
 returns-in_default c =
     rw (
-      ← c.key-is.ensures,
-      c.if1.true,
+      ← c.key_is.ensures,
+      c.if-key_is.true,
       ← c.key_is-then-key_is.ensures,
       c.if-key_is-2.true,
       ← c.whole_at.ensures,
@@ -37,8 +31,8 @@ pub returns-in_default-whole_at : goal.returns-in_default-whole_at
 unfolding choice_line
 returns-in_default-whole_at c =
     rw (
-      ← c.key-is.ensures,
-      c.if1.true,
+      ← c.key_is.ensures,
+      c.if-key_is.true,
       ← c.key_is-then-key_is.ensures,
       c.if-key_is-2.true,
       ← c.whole_at.ensures,
@@ -51,8 +45,8 @@ pub returns-then-key_is-2 : goal.returns-then-key_is-2
 unfolding choice_line
 returns-then-key_is-2 c =
     rw (
-      ← c.key-is.ensures,
-      c.if1.true,
+      ← c.key_is.ensures,
+      c.if-key_is.true,
       ← c.key_is-then-key_is.ensures,
       c.if-key_is-2.true,
       ← c.whole_at.ensures,
@@ -63,7 +57,7 @@ returns-then-key_is-2 c =
 
 pub returns-else-key_is-2 : goal.returns-else-key_is-2
 unfolding choice_line
-returns-else-key_is-2 c = rw (← c.key-is.ensures, c.if1.true, ← c.key_is-then-key_is.ensures, c.if-key_is-2.false)
+returns-else-key_is-2 c = rw (← c.key_is.ensures, c.if-key_is.true, ← c.key_is-then-key_is.ensures, c.if-key_is-2.false)
 
 pub returns-else-key_is : goal.returns-else-key_is
 unfolding choice_line

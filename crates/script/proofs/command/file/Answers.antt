@@ -3,9 +3,6 @@ use Rattle.script.specs.Commands.{file_line}
 use borrow.Author.Rules.{rules}
 use Rattle.script.proofs.command.file.Goals as goal
 
-slice-aggregate-key-is : tie.Need-slice-aggregate-key-is
-slice-aggregate-key-is c = search rules
-
 pub returns-in_default : goal.returns-in_default
 unfolding file_line
 returns-in_default c =

@@ -3,9 +3,6 @@ use mathlib.Core.Path.{refl}
 use Rattle.script.specs.Commands.{new_line}
 use Rattle.script.proofs.command.new.Goals as goal
 
-slice-aggregate-key-is : tie.Need-slice-aggregate-key-is
-slice-aggregate-key-is c = refl
-
 pub enum_known-mutation_factor : goal.enum_known-mutation_factor
 enum_known-mutation_factor c = c.in-Is.in-Is-own.keys1
 

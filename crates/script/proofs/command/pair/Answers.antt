@@ -3,12 +3,6 @@ use Rattle.script.specs.Commands.{pair_line}
 use borrow.Author.Rules.{rules}
 use Rattle.script.proofs.command.pair.Goals as goal
 
-slice-aggregate-key-is : tie.Need-slice-aggregate-key-is
-slice-aggregate-key-is c = search rules
-
-slice-aggregate-key-is-2 : tie.Need-slice-aggregate-key-is-2
-slice-aggregate-key-is-2 c = search rules
-
 pub returns-then-key_is : goal.returns-then-key_is
 unfolding pair_line
 returns-then-key_is c = rw (← c.key_is.ensures, c.if-key_is.true) c.tell.ensures
@@ -16,9 +10,9 @@ returns-then-key_is c = rw (← c.key_is.ensures, c.if-key_is.true) c.tell.ensur
 pub returns-then-key_is-2 : goal.returns-then-key_is-2
 unfolding pair_line
 returns-then-key_is-2 c =
-    rw (← c.key-is.ensures, c.if1.false, ← c.key_is-2.ensures, c.if-key_is-2.true) c.put.ensures
+    rw (← c.key_is.ensures, c.if-key_is.false, ← c.key_is-2.ensures, c.if-key_is-2.true) c.put.ensures
 
 pub returns : goal.returns
 unfolding pair_line
 returns c =
-    rw (← c.key-is.ensures, c.if1.false, ← c.key_is-2.ensures, c.if-key_is-2.false)
+    rw (← c.key_is.ensures, c.if-key_is.false, ← c.key_is-2.ensures, c.if-key_is-2.false)

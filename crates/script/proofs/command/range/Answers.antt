@@ -3,28 +3,19 @@ use mathlib.Core.Path.{refl}
 use Rattle.script.specs.Commands.{range_line}
 use Rattle.script.proofs.command.range.Goals as goal
 
-slice-aggregate-key-is : tie.Need-slice-aggregate-key-is
-slice-aggregate-key-is c = refl
-
-slice-aggregate-key-is-2 : tie.Need-slice-aggregate-key-is-2
-slice-aggregate-key-is-2 c = refl
-
-slice-aggregate-key-is-3 : tie.Need-slice-aggregate-key-is-3
-slice-aggregate-key-is-3 c = refl
-
 pub returns-then-key_is-2 : goal.returns-then-key_is-2
 unfolding range_line
 returns-then-key_is-2 c =
-    rw (← c.key-is.ensures, c.if1.true, ← c.key_is-then-key_is.ensures, c.if-key_is-2.true) c.sample_float.ensures
+    rw (← c.key_is.ensures, c.if-key_is.true, ← c.key_is-then-key_is.ensures, c.if-key_is-2.true) c.sample_float.ensures
 
 pub returns-then-key_is-3 : goal.returns-then-key_is-3
 unfolding range_line
 returns-then-key_is-3 c =
     rw (
-      ← c.key-is.ensures,
-      c.if1.true,
-      ← c.key-is2.ensures,
-      c.if2.false,
+      ← c.key_is.ensures,
+      c.if-key_is.true,
+      ← c.key_is-then-key_is.ensures,
+      c.if-key_is-2.false,
       ← c.key_is-then-key_is-2.ensures,
       c.if-key_is-3.true,
     ) c.sample_int.ensures
@@ -32,7 +23,7 @@ returns-then-key_is-3 c =
 pub returns-else-key_is-3 : goal.returns-else-key_is-3
 unfolding range_line
 returns-else-key_is-3 c =
-    rw (← c.key-is.ensures, c.if1.true, ← c.key-is2.ensures, c.if2.false, ← c.key_is-then-key_is-2.ensures, c.if-key_is-3.false)
+    rw (← c.key_is.ensures, c.if-key_is.true, ← c.key_is-then-key_is.ensures, c.if-key_is-2.false, ← c.key_is-then-key_is-2.ensures, c.if-key_is-3.false)
 
 pub returns-else-key_is : goal.returns-else-key_is
 unfolding range_line

@@ -23,7 +23,7 @@ enum_told-in_default-int_at c = c.in_default-int_at.in_default-int_at-own.keys2
 pub returns-in_default-int_at : goal.returns-in_default-int_at
 unfolding sample_int
 returns-in_default-int_at c =
-    rw (← c.whole_at.ensures, c.in-Is.is, ← c.Int-at.ensures, c.in_default-int_at.is)
+    rw (← c.whole_at.ensures, c.in-Is.is, ← c.int_at.ensures, c.in_default-int_at.is)
 
 pub enum_known-high : goal.enum_known-high
 enum_known-high c = c.in-Is-int_at-2.in-Is-int_at-2-own.keys1
@@ -37,7 +37,7 @@ returns-in_default-int_at-2 c =
     rw (
       ← c.whole_at.ensures,
       c.in-Is.is,
-      ← c.Int-at.ensures,
+      ← c.int_at.ensures,
       c.in-Is-int_at.is,
       ← c.int_at-2.ensures,
       c.in_default-int_at-2.is,
@@ -55,7 +55,7 @@ returns-in_default-scale_at c =
     rw (
       ← c.whole_at.ensures,
       c.in-Is.is,
-      ← c.Int-at.ensures,
+      ← c.int_at.ensures,
       c.in-Is-int_at.is,
       ← c.int_at-2.ensures,
       c.in-Is-int_at-2.is,
@@ -75,7 +75,7 @@ returns-in_default-int_step_at c =
     rw (
       ← c.whole_at.ensures,
       c.in-Is.is,
-      ← c.Int-at.ensures,
+      ← c.int_at.ensures,
       c.in-Is-int_at.is,
       ← c.int_at-2.ensures,
       c.in-Is-int_at-2.is,
@@ -91,7 +91,7 @@ returns c =
     rw (
       ← c.whole_at.ensures,
       c.in-Is.is,
-      ← c.Int-at.ensures,
+      ← c.int_at.ensures,
       c.in-Is-int_at.is,
       ← c.int_at-2.ensures,
       c.in-Is-int_at-2.is,

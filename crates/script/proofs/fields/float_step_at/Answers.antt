@@ -3,12 +3,9 @@ use mathlib.Core.Path.{refl}
 use Rattle.script.specs.Fields.{float_step_of}
 use Rattle.script.proofs.fields.float_step_at.Goals as goal
 
-slice-aggregate-is : tie.Need-slice-aggregate-is
-slice-aggregate-is c = refl
-
 pub returns-then-is : goal.returns-then-is
 unfolding float_step_of
-returns-then-is c = rw (← c.word.ensures, ← c.is.ensures, c.if-is.true)
+returns-then-is c = rw (← c.word-s.ensures, ← c.is.ensures, c.if-is.true)
 
 pub enum_known-x : goal.enum_known-x
 enum_known-x c = c.in-Is.in-Is-own.keys1
@@ -19,9 +16,9 @@ enum_told-1 c = c.in-Not.in-Not-own.keys2
 pub returns-in-Is : goal.returns-in-Is
 unfolding float_step_of
 returns-in-Is c =
-    rw (← c.word.ensures, ← c.is.ensures, c.if-is.false, ← c.read_double.ensures, c.in-Is.is)
+    rw (← c.word-s.ensures, ← c.is.ensures, c.if-is.false, ← c.read_double.ensures, c.in-Is.is)
 
 pub returns-in-Not : goal.returns-in-Not
 unfolding float_step_of
 returns-in-Not c =
-    rw (← c.word.ensures, ← c.is.ensures, c.if-is.false, ← c.read_double.ensures, c.in-Not.is)
+    rw (← c.word-s.ensures, ← c.is.ensures, c.if-is.false, ← c.read_double.ensures, c.in-Not.is)

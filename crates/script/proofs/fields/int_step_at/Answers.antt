@@ -5,12 +5,9 @@ use mir.Facts.{to_z-of_z}
 use Rattle.script.specs.Fields.{int_step_of}
 use Rattle.script.proofs.fields.int_step_at.Goals as goal
 
-slice-aggregate-is : tie.Need-slice-aggregate-is
-slice-aggregate-is c = refl
-
 pub returns-then-is : goal.returns-then-is
 unfolding int_step_of
-returns-then-is c = rw (← c.word.ensures, ← c.is.ensures, c.if-is.true)
+returns-then-is c = rw (← c.word-s.ensures, ← c.is.ensures, c.if-is.true)
 
 pub enum_known-n : goal.enum_known-n
 enum_known-n c = c.in-Is.in-Is-own.keys1
@@ -22,7 +19,7 @@ pub returns-in-Is : goal.returns-in-Is
 unfolding int_step_of
 returns-in-Is c =
     rw (
-      ← c.word.ensures,
+      ← c.word-s.ensures,
       ← c.is.ensures,
       c.if-is.false,
       ← c.read_int.ensures,
@@ -33,4 +30,4 @@ returns-in-Is c =
 pub returns-in-Not : goal.returns-in-Not
 unfolding int_step_of
 returns-in-Not c =
-    rw (← c.word.ensures, ← c.is.ensures, c.if-is.false, ← c.read_int.ensures, c.in-Not.is)
+    rw (← c.word-s.ensures, ← c.is.ensures, c.if-is.false, ← c.read_int.ensures, c.in-Not.is)

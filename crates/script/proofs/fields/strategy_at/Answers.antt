@@ -3,33 +3,24 @@ use mathlib.Core.Path.{refl}
 use Rattle.script.specs.Fields.{strategy_of}
 use Rattle.script.proofs.fields.strategy_at.Goals as goal
 
-slice-aggregate-is : tie.Need-slice-aggregate-is
-slice-aggregate-is c = refl
-
-slice-aggregate-is-2 : tie.Need-slice-aggregate-is-2
-slice-aggregate-is-2 c = refl
-
-slice-aggregate-is-3 : tie.Need-slice-aggregate-is-3
-slice-aggregate-is-3 c = refl
-
 pub returns-then-is : goal.returns-then-is
 unfolding strategy_of
-returns-then-is c = rw (← c.word.ensures, ← c.is.ensures, c.if-is.true)
+returns-then-is c = rw (← c.word-s.ensures, ← c.is.ensures, c.if-is.true)
 
 pub returns-then-is-2 : goal.returns-then-is-2
 unfolding strategy_of
 returns-then-is-2 c =
-    rw (← c.word.ensures, ← c.is.ensures, c.if1.false, ← c.is-2.ensures, c.if-is-2.true)
+    rw (← c.word-s.ensures, ← c.is.ensures, c.if-is.false, ← c.is-2.ensures, c.if-is-2.true)
 
 pub returns-then-is-3 : goal.returns-then-is-3
 unfolding strategy_of
 returns-then-is-3 c =
     rw (
-      ← c.word.ensures,
+      ← c.word-s.ensures,
       ← c.is.ensures,
-      c.if1.false,
-      ← c.is2.ensures,
-      c.if2.false,
+      c.if-is.false,
+      ← c.is-2.ensures,
+      c.if-is-2.false,
       ← c.is-3.ensures,
       c.if-is-3.true,
     )
@@ -38,11 +29,11 @@ pub returns : goal.returns
 unfolding strategy_of
 returns c =
     rw (
-      ← c.word.ensures,
+      ← c.word-s.ensures,
       ← c.is.ensures,
-      c.if1.false,
-      ← c.is2.ensures,
-      c.if2.false,
+      c.if-is.false,
+      ← c.is-2.ensures,
+      c.if-is-2.false,
       ← c.is-3.ensures,
       c.if-is-3.false,
     )

@@ -17,18 +17,32 @@ returns-then-n-room c =
     let a = c.args in
     let f = a.file.now in
     let p = within a.at (hex_of word.result.now) f (omega (arith, half word.result.now)) in
-    subst (λ (bs : List ℕ). (true ≡ fits_at a.at bs f) × (c.overwrite.new.1.0 ≡ put_into a.at bs f)) (ap hex_of word.ensures) (p.0, c.overwrite.ensures ∙ p.1)
+    let e = ap hex_of word.ensures in
+    record {
+      value = subst (λ (bs : List ℕ). true ≡ fits_at a.at bs f) e p.0;
+      file_after = subst (λ (bs : List ℕ). c.overwrite.new.file ≡ put_into a.at bs f) e (c.overwrite.ensures ∙ p.1);
+    }
 
 pub returns-else-n-room : goal.returns-else-n-room
 returns-else-n-room c =
     let word = c.word-s in
     let a = c.args in
     let f = a.file.now in
-    subst (λ (bs : List ℕ). (false ≡ fits_at a.at bs f) × (f ≡ put_into a.at bs f)) (ap hex_of word.ensures) (past a.at (hex_of word.result.now) f (omega (arith, half word.result.now)))
+    let p = past a.at (hex_of word.result.now) f (omega (arith, half word.result.now)) in
+    let e = ap hex_of word.ensures in
+    record {
+      value = subst (λ (bs : List ℕ). false ≡ fits_at a.at bs f) e p.0;
+      file_after = subst (λ (bs : List ℕ). f ≡ put_into a.at bs f) e p.1;
+    }
 
 pub returns-else-at-room : goal.returns-else-at-room
 returns-else-at-room c =
     let word = c.word-s in
     let a = c.args in
     let f = a.file.now in
-    subst (λ (bs : List ℕ). (false ≡ fits_at a.at bs f) × (f ≡ put_into a.at bs f)) (ap hex_of word.ensures) (past a.at (hex_of word.result.now) f (omega arith))
+    let p = past a.at (hex_of word.result.now) f (omega arith) in
+    let e = ap hex_of word.ensures in
+    record {
+      value = subst (λ (bs : List ℕ). false ≡ fits_at a.at bs f) e p.0;
+      file_after = subst (λ (bs : List ℕ). f ≡ put_into a.at bs f) e p.1;
+    }

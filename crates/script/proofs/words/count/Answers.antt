@@ -1,15 +1,17 @@
 use Rattle.script.proofs.Cut.{count-space, count-byte, count-end}
-use mathlib.Core.Logic.{⊎_elim}
 use Prim.Native.Nat.{◌-◌}
 use native.Mathlib.Omega.{arith}
 use Rattle.script.proofs.words.count.Goals as goal
+use Rattle.script.proofs.words.count.Goals.{then-line-i-eq32, else-line-i-eq32}
 
 pub loop-i-preserved : goal.loop-i-preserved
 loop-i-preserved c =
     let line = c.args.line.now in
     let i = c.loop-i.i in
-    ⊎_elim (λ w. omega (arith, count-space line i (omega arith) w.0.taken)) (λ w. omega (arith, count-byte line i (omega arith) w.0.left))
-    c.if-line-i-eq32.branch
+    elim c.if-line-i-eq32.branch [
+      then-line-i-eq32 w ↦ omega (arith, count-space line i (omega arith) w.if-line-i-eq32.true)
+    | else-line-i-eq32 w ↦ omega (arith, count-byte line i (omega arith) w.if-line-i-eq32.false)
+    ]
 
 pub returns : goal.returns
 returns c = omega (arith, count-end c.args.line.now c.loop-i.i (omega arith))

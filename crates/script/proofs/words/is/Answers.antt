@@ -1,6 +1,7 @@
--- `check::same` says both ways what `same_bytes` decides.
+-- `==` decides what `same_bytes` decides.
+use mathlib.Core.Path.{◌∙◌}
 use Rattle.script.proofs.Same.{same-is}
 use Rattle.script.proofs.words.is.Goals as goal
 
 pub returns : goal.returns
-returns c = same-is _ _ _ c.same.ensures.0 c.same.ensures.1
+returns c = c.eq.ensures ∙ same-is c.args.word.now c.args.keyword.now

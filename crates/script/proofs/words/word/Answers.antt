@@ -7,23 +7,9 @@ use Prim.Native.Nat.{ℕ, ◌-◌}
 use native.Mathlib.Omega.{arith}
 use Rattle.script.proofs.words.word.Goals as goal
 
-part-result-start : tie.Need-slice-bounds-result-start invariant-loop decreases-loop
-part-result-start c = omega arith
-
-part-result-end : tie.Need-slice-bounds-result-end invariant-loop decreases-loop
-part-result-end c = omega arith
-
-part-result-start-2 : tie.Need-slice-bounds-result-start-2 invariant-loop decreases-loop
-part-result-start-2 c =
-    let c₁ = c.before.before in
-    let c₂ = c₁.before.before in
-    omega (arith, word_fits c₂.args.line.now c₁.loop.start c.word-end2.result (omega arith) c.word-end2.ensures)
-
-part-result-end-2 : tie.Need-slice-bounds-result-end-2 invariant-loop decreases-loop
-part-result-end-2 c =
-    let c₁ = c.before.before in
-    let c₂ = c₁.before.before in
-    omega (arith, word_fits c₂.args.line.now c₁.loop.start c.word-end2.result (omega arith) c.word-end2.ensures)
+pub slice_bounds-result-end-2 : goal.slice_bounds-result-end-2
+slice_bounds-result-end-2 c =
+    omega (arith, word_fits c.args.line.now c.loop-i.start c.word_end-end-2.result (omega arith) c.word_end-end-2.ensures)
 
 pub loop-i-init : goal.loop-i-init
 loop-i-init c = (omega arith, omega arith, refl)
