@@ -12,7 +12,7 @@ returns-in-Float c = ap P.Float c.from_float.ensures ∙ ap (from_internal _) (s
 pub returns-in-Int : goal.returns-in-Int
 unfolding from_internal
 returns-in-Int c =
-    ap P.Int (own-z c.from_int_lem.result (record { sfits = c.from_int_lem.type-inv }) ∙ c.from_int_lem.ensures)
+    ap P.Int (own-z c.from_int.result (record { sfits = c.from_int.type_inv }) ∙ c.from_int.ensures)
     ∙ ap (from_internal _) (sym c.in-Int.is)
 
 pub returns-in-Categorical : goal.returns-in-Categorical

@@ -24,7 +24,7 @@ returns-in-Float c = ap P.Float c.random_float.ensures ∙ ap (λ (d : Distribut
 pub returns-in-Int : goal.returns-in-Int
 unfolding random_value
 returns-in-Int c =
-    ap P.Int (own-z c.random_int.result (record { sfits = c.random_int.type-inv }) ∙ c.random_int.ensures)
+    ap P.Int (own-z c.random_int.result (record { sfits = c.random_int.type_inv }) ∙ c.random_int.ensures)
     ∙ ap (λ (d : Distribution). random_value d c.args.output) (sym c.in-Int.is)
 
 pub returns-in-Categorical : goal.returns-in-Categorical

@@ -15,7 +15,7 @@ returns-in-Unset c =
     let d = a.d in
     let l = own-z d.low (record { sfits = c.struct_told-1.given.0.1 }) in
     let h = own-z d.high (record { sfits = c.struct_told-in-Unset-1.given.1.0.1 }) in
-    own-z c.stepped.result (record { sfits = c.stepped.type-inv })
+    own-z c.stepped.result (record { sfits = c.stepped.type_inv })
     ∙ c.stepped.ensures
     ∙ (λ i. clamp_z (by_ones (whole_z a.value) i) (l i) (h i))
     ∙ ap (λ (t : IntStep). clamp_z (on_step_z t d.low a.value) d.low d.high) (sym c.in-Unset.is)
@@ -31,7 +31,7 @@ returns-in-By c =
     let h = own-z d.high (record { sfits = c.struct_told-in-By-4-1.given.1.0.1 }) in
     let x = c.nearest_i64_to_f64-low.ensures ∙ ap (of_int binary64) l in
     let y = c.nearest_i64_to_f64.ensures ∙ ap (of_int binary64) step in
-    own-z c.stepped-in-By.result (record { sfits = c.stepped-in-By.type-inv })
+    own-z c.stepped-in-By.result (record { sfits = c.stepped-in-By.type_inv })
     ∙ c.stepped-in-By.ensures
     ∙ (λ i. clamp_z (l i +ℤ whole_z (div binary64 (sub binary64 a.value (x i)) (y i)) *ℤ step i) (l i) (h i))
     ∙ ap (λ (t : IntStep). clamp_z (on_step_z t d.low a.value) d.low d.high) (sym c.in-By.is)

@@ -28,10 +28,11 @@ random_step-requires c =
     let valid = c.requires in
     let g = valid-good (D.Int d) valid in
     let u = int-upward d _ valid c.in-By.is in
-    let s = sym (own-z _ (record { sfits = c.in-By.known_told-1-own.given.0.1 })) in (
-      read_back (record { sfits = c.struct_told-in-By-1.given.0.1 }) (record { sfits = c.struct_told-in-By-2-1.given.1.0.1 }) (g.ordered, g.small_low, g.small_high),
-      subst (λ (z : ℤ). pos 0 <ℤ z) s u,
-    )
+    let s = sym (own-z _ (record { sfits = c.in-By.known_told-1-own.given.0.1 })) in
+    record {
+      low_le_high = read_back (record { sfits = c.struct_told-in-By-1.given.0.1 }) (record { sfits = c.struct_told-in-By-2-1.given.1.0.1 }) (g.ordered, g.small_low, g.small_high);
+      pos_bound = subst (λ (z : ℤ). pos 0 <ℤ z) s u;
+    }
 
 pub returns-in-Unset : goal.returns-in-Unset
 unfolding random_int
@@ -39,7 +40,7 @@ returns-in-Unset c =
     let a = c.args in
     let l = own-z a.d.low (record { sfits = c.struct_told-1.given.0.1 }) in
     let h = own-z a.d.high (record { sfits = c.struct_told-in-Unset-1.given.1.0.1 }) in
-    own-z c.i64_between.result (record { sfits = c.i64_between.type-inv })
+    own-z c.i64_between.result (record { sfits = c.i64_between.type_inv })
     ∙ c.i64_between.ensures
     ∙ (λ i. i64_of a.output (l i) (h i))
     ∙ ap (λ (t : IntStep). random_int t a.d.low a.d.high a.output) (sym c.in-Unset.is)
@@ -50,7 +51,7 @@ returns-in-By c =
     let s = own-z _ (record { sfits = c.in-By.known_told-1-own.given.0.1 }) in
     let l = own-z a.d.low (record { sfits = c.struct_told-in-By-1.given.0.1 }) in
     let h = own-z a.d.high (record { sfits = c.struct_told-in-By-2-1.given.1.0.1 }) in
-    own-z c.random_step.result (record { sfits = c.random_step.type-inv })
+    own-z c.random_step.result (record { sfits = c.random_step.type_inv })
     ∙ c.random_step.ensures
     ∙ (λ i. random_int (I.By (s i)) (l i) (h i) a.output)
     ∙ ap (λ (t : IntStep). random_int t a.d.low a.d.high a.output) (sym c.in-By.is)

@@ -12,7 +12,7 @@ returns c =
     let sum : c.steps_from-n.result ≡ min (place_of (a.from +ℤ whole_z a.q *ℤ a.step)) last_place =
     c.steps_from-n.ensures
     ∙ (λ i. min (place_of (at-placed a.from _ f.from c.place.ensures i +ℤ whole_z a.q *ℤ at-placed a.step _ f.step c.place-2.ensures i)) last_place) in
-    own-z c.at_place.result (record { sfits = c.at_place.type-inv })
+    own-z c.at_place.result (record { sfits = c.at_place.type_inv })
     ∙ c.at_place.ensures
     ∙ ap at_place
     (c.between.ensures
