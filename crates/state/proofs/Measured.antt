@@ -4,14 +4,13 @@ use native.Mathlib.Omega.{arith}
 use mathlib.Core.Path.{◌≡◌, sym, subst}
 use mathlib.Core.List.Memᴰ
 use mathlib.Core.List.{List, [], ◌∷◌}
+use borrow.Author.Rules.{rules}
 use lib.ListN.{length}
 use mir.Val.{Val}
 use denote.Laws.{Is}
-use denote.Array.{Array, each}
+use denote.Array.{each}
 use denote.Shadow.{shadow}
-use denote.Builtin.{f64, u16}
 use denote.RattleType.{RattleType}
-use Rattle.distribution.specs.contracts.DimensionInfo as D
 use Rattle.candidates.specs.contracts.Candidate as C
 use Rattle.candidates.specs.declared.Candidate.{Candidate}
 use Rattle.evolution.specs.contracts.Member as M
@@ -20,7 +19,6 @@ use Rattle.ledger.specs.Words.{All}
 use Rattle.ledger.specs.State.{cap}
 use Rattle.state.specs.declared.State.{State}
 use Rattle.state.specs.contracts.State as S
-use Rattle.state.specs.contracts.TrialProgress as T
 
 -- a candidate's two arrays
 pub record Sized (c : Candidate) : Type 0 where
@@ -37,10 +35,7 @@ pub record Measured (s : State) : Type 0 where
   pub closed : s.closed ≤ cap
   pub idle : s.idle ≤ cap
 
--- ---- an array
-
-field-length : (R : RattleType) (n : ℕ) (xs : List R.Denot) (vs : List Val) → Is (Array R n) xs vs → length xs ≡ n
-field-length R n xs vs p = p.1.0.1
+-- ---- an array that is a field of a struct: what the type of its elements says holds of each
 
 each-field : (R : RattleType) (P : R.Denot → Type 0) → ((x : R.Denot) (vs : List Val) → Is R x vs → P x)
     → (xs : List R.Denot) (us : List Val) → shadow (each R.Denot R.own_val xs us) → All P xs
@@ -50,24 +45,21 @@ each-field R P h (x ∷ xs) (u ∷ us) p a (Memᴰ.head e) = subst P (sym e) (h 
 each-field R P h (x ∷ xs) (u ∷ us) p a (Memᴰ.tail m) = each-field R P h xs us p.1 a m
 
 sized : (c : Candidate) (vs : List Val) → Is C.the_row c vs → Sized c
-sized c vs p = record { x = field-length f64 16 c.x _ p.1.1.0; choices = field-length u16 16 c.choices _ p.1.1.1.0 }
+sized c vs p = record { x = search rules; choices = search rules }
 
 -- ---- the whole
 
 pub measured : (s : State) (vs : List Val) → Is S.the_row s vs → Measured s
 measured s vs p =
-    let dims = p.1.1.1.1.1.1.1 in
-    let candidates = dims.1 in
+    let candidates = p.1.1.1.1.1.1.1.1 in
     let parents = candidates.1 in
-    let trials = parents.1.1 in
-    let closed = trials.1.1.1 in
     record {
-      dims = field-length D.the_row 16 s.dims _ dims.0;
-      candidates = field-length C.the_row 224 s.candidates _ candidates.0;
-      parents = field-length M.the_row 160 s.parents _ parents.0;
-      trials = field-length T.the_row 224 s.trials _ trials.0;
+      dims = search rules;
+      candidates = search rules;
+      parents = search rules;
+      trials = search rules;
       candidates_sized = each-field C.the_row Sized sized s.candidates _ candidates.0.1.1;
       parents_sized = each-field M.the_row (λ (m : Member). Sized m.candidate) (λ m us q. sized m.candidate _ q.1.1.0) s.parents _ parents.0.1.1;
-      closed = let h = closed.0.1 in omega arith;
-      idle = let h = closed.1.0.1 in omega arith;
+      closed = search rules;
+      idle = search rules;
     }

@@ -19,17 +19,20 @@ many s rs m h few = parents_length s.closed s.n s.parents s.candidates rs (omega
 
 pub next_candidates-next-requires : goal.next_candidates-next-requires
 next_candidates-next-requires c =
-    let slots = c.settle-slots.ensures in
+    let s = c.args.state in
+    let l = many s c.args.results (measured s _ c.well_formed.0) (search rules) c.requires.few in
     let p = c.requires in
     let few = p.few_dims in
-    (p.enough, p.few, best-fits c.args.state c.args.results _ slots (many c.args.state c.args.results (measured c.args.state _ c.well_formed.0) (search rules) c.requires.few) p.enough, space-few _ _ _ few c.search_space-space.ensures, space-dims _ _ _ few c.search_space-space.ensures, omega arith)
+    (p.enough, p.few, best-fits s c.args.results _ c.settle-slots.ensures l p.enough, space-few _ _ _ few c.search_space-space.ensures, space-dims _ _ _ few c.search_space-space.ensures, omega arith)
 
 pub returns-then-any_bad : goal.returns-then-any_bad
 returns-then-any_bad c =
-    let slots = c.settle-slots.ensures in
-    closed-not c.args.state c.args.results _ slots (many c.args.state c.args.results (measured c.args.state _ c.well_formed.0) (search rules) c.requires.few) _ c.search_space-space.ensures _ c.next_candidates-next.ensures _ c.any_bad.ensures c.if-any_bad.true
+    let s = c.args.state in
+    let l = many s c.args.results (measured s _ c.well_formed.0) (search rules) c.requires.few in
+    closed-not s c.args.results _ c.settle-slots.ensures l _ c.search_space-space.ensures _ c.next_candidates-next.ensures _ c.any_bad.ensures c.if-any_bad.true
 
 pub returns : goal.returns
 returns c =
-    let slots = c.settle-slots.ensures in
-    closed-so c.args.state c.args.results _ slots (many c.args.state c.args.results (measured c.args.state _ c.well_formed.0) (search rules) c.requires.few) _ c.search_space-space.ensures _ c.next_candidates-next.ensures _ c.any_bad.ensures c.if-any_bad.false
+    let s = c.args.state in
+    let l = many s c.args.results (measured s _ c.well_formed.0) (search rules) c.requires.few in
+    closed-so s c.args.results _ c.settle-slots.ensures l _ c.search_space-space.ensures _ c.next_candidates-next.ensures _ c.any_bad.ensures c.if-any_bad.false
