@@ -20,6 +20,7 @@ use printed::whole::state_rows;
 use script::Command;
 use slots::{LookAnswer, Looked};
 use state::State;
+use std::io::Write;
 
 // What is kept from question to question, beside the state and the arrays.
 #[derive(Clone, Copy)]
@@ -43,13 +44,13 @@ pub struct Step {
 }
 
 // A run whose script breaks the rules ends.
-pub fn malformed(out: &mut [u8; 8192], run: Run) -> Run
+pub fn malformed<W: Write>(to: &mut W, out: &mut [u8; 8192], run: Run) -> Run
     ensures { Ended run result }
 {
     let mut r = run;
     let cursor = r.cursor;
     let sink = r.sink;
-    let s = malformed_row(out, sink, cursor.line);
+    let s = malformed_row(to, out, sink, cursor.line);
     r.sink = s;
     r.stopped = true;
     r
@@ -66,7 +67,7 @@ fn started(built: Built, state: State) -> State
 }
 
 // A set-up empties the history, a refused one too.
-fn begun(out: &mut [u8; 8192], run: Run, built: Built) -> Run
+fn begun<W: Write>(to: &mut W, out: &mut [u8; 8192], run: Run, built: Built) -> Run
     ensures { Begun run built result }
 {
     let mut r = run;
@@ -74,12 +75,12 @@ fn begun(out: &mut [u8; 8192], run: Run, built: Built) -> Run
     let sink = r.sink;
     match built {
         Built::Accepted(_) => {
-            let s = put(out, sink, b"new\n");
+            let s = put(to, out, sink, b"new\n");
             r.sink = s;
             r.accepted = true;
         }
         Built::Refused(refusal) => {
-            let s = refused_row(out, sink, refusal);
+            let s = refused_row(to, out, sink, refusal);
             r.sink = s;
             r.accepted = false;
         }
@@ -88,14 +89,14 @@ fn begun(out: &mut [u8; 8192], run: Run, built: Built) -> Run
 }
 
 // A set-up.
-fn new(out: &mut [u8; 8192], run: Run, state: State, setup: Setup) -> Step
+fn new<W: Write>(to: &mut W, out: &mut [u8; 8192], run: Run, state: State, setup: Setup) -> Step
     ensures { (h : List CompletedTrial) (f : List ℕ) → Obeyed run state h f f (New setup) result }
 {
     let builder = DESamplerBuilder { setup };
     let built = builder.build();
     Step {
         state: started(built, state),
-        run: begun(out, run, built),
+        run: begun(to, out, run, built),
     }
 }
 
@@ -120,15 +121,22 @@ fn sample_first<'a>(
 }
 
 // A sample call's answer.
-fn answer_row(out: &mut [u8; 8192], sink: Sink, answer: Answer, draws: u64) -> Sink {
+fn answer_row<W: Write>(
+    to: &mut W,
+    out: &mut [u8; 8192],
+    sink: Sink,
+    answer: Answer,
+    draws: u64,
+) -> Sink {
     match answer {
-        Answer::Setting(setting) => setting_row(out, sink, setting, draws),
-        Answer::Refused(refusal) => refused_row(out, sink, refusal),
+        Answer::Setting(setting) => setting_row(to, out, sink, setting, draws),
+        Answer::Refused(refusal) => refused_row(to, out, sink, refusal),
     }
 }
 
 // A sample line, where there is a state.
-fn sample<'a>(
+fn sample<'a, W: Write>(
+    to: &mut W,
     out: &mut [u8; 8192],
     run: Run,
     state: State,
@@ -146,7 +154,7 @@ fn sample<'a>(
         let answer = sampled.answer;
         let after = sampled.state;
         let sink = r.sink;
-        let s = answer_row(out, sink, answer, sampled.draws);
+        let s = answer_row(to, out, sink, answer, sampled.draws);
         r.sink = s;
         return Step {
             state: after,
@@ -155,18 +163,19 @@ fn sample<'a>(
     }
     Step {
         state,
-        run: malformed(out, run),
+        run: malformed(to, out, run),
     }
 }
 
 // A look call's answer.
-fn look_row(out: &mut [u8; 8192], sink: Sink, looked: Looked) -> Sink {
+fn look_row<W: Write>(to: &mut W, out: &mut [u8; 8192], sink: Sink, looked: Looked) -> Sink {
     let look = looked.look;
     let values = looked.values;
     match look {
-        LookAnswer::Refused(refusal) => refused_row(out, sink, refusal),
-        LookAnswer::Nothing => put(out, sink, b"look -\n"),
+        LookAnswer::Refused(refusal) => refused_row(to, out, sink, refusal),
+        LookAnswer::Nothing => put(to, out, sink, b"look -\n"),
         LookAnswer::Best(best) => best_row(
+            to,
             out,
             sink,
             best,
@@ -179,36 +188,37 @@ fn look_row(out: &mut [u8; 8192], sink: Sink, looked: Looked) -> Sink {
 }
 
 // A look line, where there is a state.
-fn look(out: &mut [u8; 8192], run: Run, state: State) -> Run
+fn look<W: Write>(to: &mut W, out: &mut [u8; 8192], run: Run, state: State) -> Run
     ensures { Answered run result }
 {
     if run.accepted {
         let mut r = run;
         let looked = slots::look(state);
         let sink = r.sink;
-        let s = look_row(out, sink, looked);
+        let s = look_row(to, out, sink, looked);
         r.sink = s;
         return r;
     }
-    malformed(out, run)
+    malformed(to, out, run)
 }
 
 // A state line, where there is a state.
-fn show(out: &mut [u8; 8192], run: Run, state: State) -> Run
+fn show<W: Write>(to: &mut W, out: &mut [u8; 8192], run: Run, state: State) -> Run
     ensures { Answered run result }
 {
     if run.accepted {
         let mut r = run;
         let sink = r.sink;
-        let s = state_rows(out, sink, state);
+        let s = state_rows(to, out, sink, state);
         r.sink = s;
         return r;
     }
-    malformed(out, run)
+    malformed(to, out, run)
 }
 
 // A line that is not settled by the history and the kept file alone.
-pub fn obey<'a>(
+pub fn obey<'a, W: Write>(
+    to: &mut W,
     out: &mut [u8; 8192],
     run: Run,
     state: State,
@@ -221,31 +231,31 @@ pub fn obey<'a>(
         Obeyed run state h file.old file.new command result }
 {
     match command {
-        Command::New(setup) => new(out, run, state, setup),
+        Command::New(setup) => new(to, out, run, state, setup),
         Command::Sample {
             number,
             distribution,
-        } => sample(out, run, state, number, distribution, numbers, values),
+        } => sample(to, out, run, state, number, distribution, numbers, values),
         Command::Look => Step {
             state,
-            run: look(out, run, state),
+            run: look(to, out, run, state),
         },
         Command::State => Step {
             state,
-            run: show(out, run, state),
+            run: show(to, out, run, state),
         },
         Command::Save => Step {
             state,
-            run: save(out, run, state, file),
+            run: save(to, out, run, state, file),
         },
-        Command::Restore => restore(out, run, state, file),
+        Command::Restore => restore(to, out, run, state, file),
         Command::Bytes => Step {
             state,
-            run: bytes(out, run, file),
+            run: bytes(to, out, run, file),
         },
         _ => Step {
             state,
-            run: malformed(out, run),
+            run: malformed(to, out, run),
         },
     }
 }

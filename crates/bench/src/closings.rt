@@ -7,6 +7,8 @@ use crate::work::{Timed, least};
 use de::sample::sample_slices;
 use state::State;
 use state::lists::trial_numbers;
+use std::io;
+use std::time::Clock;
 
 // A campaign with every slot's trial open: the trial that closes the generation, and the least time of a closing so far.
 #[derive(Clone, Copy)]
@@ -37,58 +39,58 @@ fn capped(n: usize) -> usize
 }
 
 // The closing call: its history has the results of the first N open trials.
-fn closing(c: Campaign) -> Campaign {
+fn closing(rt: &impl Clock, c: Campaign) -> io::Result<Campaign> {
     let state = c.state;
     let open = state.trials;
     let numbers = trial_numbers(open);
     let values = results(state.word);
     let n = capped(state.n);
-    let from = now();
+    let from = now(rt)?;
     let s = sample_slices(state, unit_interval(), c.next, &numbers[..n], &values[..n]);
-    let ns = since(from);
+    let ns = since(rt, from)?;
     let after = s.state;
-    Campaign {
+    Ok(Campaign {
         state: after,
         next: c.next,
         ns: least(c.ns, ns),
-    }
+    })
 }
 
 // A closing, and the calls that open the next generation's other trials.
-fn generation(c: Campaign) -> Campaign {
-    let d = closing(c);
+fn generation(rt: &impl Clock, c: Campaign) -> io::Result<Campaign> {
+    let d = closing(rt, c)?;
     let after = d.state;
     let end = std::num::wrapping_add_u64(c.next, after.n as u64);
     let state = trials(after, std::num::wrapping_add_u64(c.next, 1), end);
-    Campaign {
+    Ok(Campaign {
         state,
         next: end,
         ns: d.ns,
-    }
+    })
 }
 
-fn generations(from: Campaign, turns: u64) -> Campaign {
+fn generations(rt: &impl Clock, from: Campaign, turns: u64) -> io::Result<Campaign> {
     let mut c = from;
     let mut i: u64 = 0;
     while i < turns {
-        c = generation(c);
+        c = generation(rt, c)?;
         i += 1;
     }
-    c
+    Ok(c)
 }
 
 // The least time of fifty closings, the first of which stores and the others select.
-pub fn best_closing(state: State, next: u64) -> Timed {
+pub fn best_closing(rt: &impl Clock, state: State, next: u64) -> io::Result<Timed> {
     let from = Campaign {
         state,
         next,
         ns: 18446744073709551615,
     };
-    let last = generations(from, 50);
+    let last = generations(rt, from, 50)?;
     let end = last.state;
-    Timed {
+    Ok(Timed {
         ns: last.ns,
         word: end.word,
         n_trials: end.n_trials,
-    }
+    })
 }

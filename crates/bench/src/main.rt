@@ -10,22 +10,24 @@ mod scan;
 mod show;
 mod work;
 
-use libc::STDOUT_FILENO;
+use std::io;
+use std::rt::Env;
 
 // Whether the first argument is `run`.
-fn asked() -> bool {
+fn asked(rt: &impl Env) -> bool {
     let mut word = [0u8; 4];
-    let n = os::arg(1, &mut word);
+    let Ok(n) = rt.arg(1, &mut word) else {
+        return false;
+    };
     n == 3 && word[0] == b'r' && word[1] == b'u' && word[2] == b'n'
 }
 
-fn main() {
-    if asked() {
-        measure::measure();
+fn main(rt: HostRuntime) -> io::Result<()> {
+    if asked(&rt) {
+        measure::measure(&rt)
     } else {
-        io::write_all(
-            STDOUT_FILENO,
-            b"bench run: print ratios to a plain copy of the state, and times in nanoseconds\n",
-        );
+        println!(rt;
+            "bench run: print ratios to a plain copy of the state, and times in nanoseconds"
+        )
     }
 }

@@ -6,6 +6,9 @@ use crate::scan::scan;
 use crate::show::{expect, hundredfold, ratio, time};
 use crate::work::{Work, best};
 use state::State;
+use std::rt::Env;
+use std::time::Clock;
+use std::{env, io};
 
 // Hundredths of a nanosecond.
 #[derive(Clone, Copy)]
@@ -16,55 +19,55 @@ struct Figures {
 }
 
 // Of a state with the trials 2 to n + 1 open.
-fn figures_of(state: State, n: u64) -> Figures {
-    let copy = best(Work::Copies, state, 500);
-    let sample = best(Work::Calls, state, n);
-    let closing = best_closing(state, std::num::wrapping_add_u64(n, 2));
-    expect(copy.n_trials == n as usize);
-    expect(sample.n_trials == n as usize);
-    expect(closing.n_trials == n as usize);
-    Figures {
+fn figures_of(rt: &(impl Clock + Print), state: State, n: u64) -> io::Result<Figures> {
+    let copy = best(rt, Work::Copies, state, 500)?;
+    let sample = best(rt, Work::Calls, state, n)?;
+    let closing = best_closing(rt, state, std::num::wrapping_add_u64(n, 2))?;
+    expect(rt, copy.n_trials == n as usize)?;
+    expect(rt, sample.n_trials == n as usize)?;
+    expect(rt, closing.n_trials == n as usize)?;
+    Ok(Figures {
         copy: hundredfold(copy.ns, 500),
         sample: hundredfold(sample.ns, n),
         closing: hundredfold(closing.ns, 1),
-    }
+    })
 }
 
-fn large(f: Figures) {
-    time(b"copy-160-16", f.copy);
-    time(b"sample-160-16", f.sample);
-    time(b"closing-160-16", f.closing);
-    ratio(b"sample/copy-160-16", f.sample, f.copy);
-    ratio(b"closing/copy-160-16", f.closing, f.copy);
+fn large(rt: &impl Print, f: Figures) -> io::Result<()> {
+    time(rt, "copy-160-16", f.copy)?;
+    time(rt, "sample-160-16", f.sample)?;
+    time(rt, "closing-160-16", f.closing)?;
+    ratio(rt, "sample/copy-160-16", f.sample, f.copy)?;
+    ratio(rt, "closing/copy-160-16", f.closing, f.copy)
 }
 
-fn small(f: Figures) {
-    time(b"copy-20-2", f.copy);
-    time(b"sample-20-2", f.sample);
-    time(b"closing-20-2", f.closing);
-    ratio(b"sample/copy-20-2", f.sample, f.copy);
-    ratio(b"closing/copy-20-2", f.closing, f.copy);
+fn small(rt: &impl Print, f: Figures) -> io::Result<()> {
+    time(rt, "copy-20-2", f.copy)?;
+    time(rt, "sample-20-2", f.sample)?;
+    time(rt, "closing-20-2", f.closing)?;
+    ratio(rt, "sample/copy-20-2", f.sample, f.copy)?;
+    ratio(rt, "closing/copy-20-2", f.closing, f.copy)
 }
 
-fn long_history(state: State) {
-    let t = scan(state);
-    expect(t.n_trials == 160);
+fn long_history(rt: &(impl Clock + Print), state: State) -> io::Result<()> {
+    let t = scan(rt, state)?;
+    expect(rt, t.n_trials == 160)?;
     // Nanoseconds an entry.
-    ratio(b"scan-ns", hundredfold(t.ns, 100000), 100);
+    ratio(rt, "scan-ns", hundredfold(t.ns, 100000), 100)
 }
 
-fn rounding_alone(seed: u64) {
-    let p = best_pass(seed);
-    expect(p.sum == rounding::round(p.sum));
-    time(b"round", hundredfold(p.ns, 1000));
+fn rounding_alone(rt: &(impl Clock + Print), seed: u64) -> io::Result<()> {
+    let p = best_pass(rt, seed)?;
+    expect(rt, p.sum == rounding::round(p.sum))?;
+    time(rt, "round", hundredfold(p.ns, 1000))
 }
 
 // The seed is how many arguments there are: 2, which the compiler does not know.
-pub fn measure() {
-    let seed = os::arg_count() as u64;
+pub fn measure(rt: &(impl Alloc + Clock + Env + Print)) -> io::Result<()> {
+    let seed = env::args(rt)?.len() as u64;
     let state = open(seed, 16, 162);
-    large(figures_of(state, 160));
-    small(figures_of(open(seed, 2, 22), 20));
-    long_history(state);
-    rounding_alone(seed);
+    large(rt, figures_of(rt, state, 160)?)?;
+    small(rt, figures_of(rt, open(seed, 2, 22), 20)?)?;
+    long_history(rt, state)?;
+    rounding_alone(rt, seed)
 }

@@ -1,6 +1,8 @@
 // Rounding by itself, in a loop over a fixed list of doubles.
 use crate::clock::{now, since};
 use crate::work::least;
+use std::io;
+use std::time::Clock;
 
 // The time of a pass over the list, and the sum of what was rounded: what is summed, the compiler cannot leave out.
 #[derive(Clone, Copy)]
@@ -33,26 +35,24 @@ fn sum_rounded(from: f64, xs: &[f64; 1000]) -> f64 {
     sum
 }
 
-fn pass(from: f64, xs: &[f64; 1000]) -> Summed {
-    let start = now();
+fn pass(rt: &impl Clock, from: f64, xs: &[f64; 1000]) -> io::Result<Summed> {
+    let start = now(rt)?;
     let sum = sum_rounded(from, xs);
-    Summed {
-        ns: since(start),
-        sum,
-    }
+    let ns = since(rt, start)?;
+    Ok(Summed { ns, sum })
 }
 
 // The least time of a thousand passes. Each goes on from the sum of the one before, so that the compiler cannot make one of them.
-pub fn best_pass(seed: u64) -> Summed {
+pub fn best_pass(rt: &impl Clock, seed: u64) -> io::Result<Summed> {
     let xs = doubles(seed);
     let mut ns: u64 = 18446744073709551615;
     let mut sum = 0.0;
     let mut i: u64 = 0;
     while i < 1000 {
-        let p = pass(sum, &xs);
+        let p = pass(rt, sum, &xs)?;
         sum = p.sum;
         ns = least(ns, p.ns);
         i += 1;
     }
-    Summed { ns, sum }
+    Ok(Summed { ns, sum })
 }

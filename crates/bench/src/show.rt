@@ -1,27 +1,22 @@
 // The lines that are printed. A value is in hundredths.
-use libc::STDOUT_FILENO;
+use std::io;
 
-fn hundredths(v: u64) {
-    io::print_decimal(STDOUT_FILENO, v / 100);
-    io::write_all(STDOUT_FILENO, b".");
-    io::print_decimal(STDOUT_FILENO, v / 10 % 10);
-    io::print_decimal(STDOUT_FILENO, v % 10);
-    io::write_all(STDOUT_FILENO, b"\n");
+fn hundredths(rt: &impl Print, v: u64) -> io::Result<()> {
+    let whole = v / 100;
+    let tenth = v / 10 % 10;
+    let hundredth = v % 10;
+    println!(rt; "{whole}.{tenth}{hundredth}")
 }
 
-pub fn time(name: &[u8], v: u64) {
-    io::write_all(STDOUT_FILENO, b"time ");
-    io::write_all(STDOUT_FILENO, name);
-    io::write_all(STDOUT_FILENO, b" ");
-    hundredths(v);
+pub fn time(rt: &impl Print, name: &str, v: u64) -> io::Result<()> {
+    print!(rt; "time {name} ")?;
+    hundredths(rt, v)
 }
 
 // v to w.
-pub fn ratio(name: &[u8], v: u64, w: u64) {
-    io::write_all(STDOUT_FILENO, b"ratio ");
-    io::write_all(STDOUT_FILENO, name);
-    io::write_all(STDOUT_FILENO, b" ");
-    hundredths(hundredfold(v, w));
+pub fn ratio(rt: &impl Print, name: &str, v: u64, w: u64) -> io::Result<()> {
+    print!(rt; "ratio {name} ")?;
+    hundredths(rt, hundredfold(v, w))
 }
 
 // A hundred times v / w, and 0 where there is none or v is no time that was measured.
@@ -36,8 +31,9 @@ pub fn hundredfold(v: u64, w: u64) -> u64 {
 }
 
 // Says so where work did not leave what it should. What is asked after, the compiler cannot leave out.
-pub fn expect(right: bool) {
+pub fn expect(rt: &impl Print, right: bool) -> io::Result<()> {
     if !right {
-        io::write_all(STDOUT_FILENO, b"NOT as expected\n");
+        println!(rt; "NOT as expected")?;
     }
+    Ok(())
 }

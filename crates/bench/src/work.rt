@@ -4,6 +4,8 @@ ghost use Rattle.std.specs.Prelude.{◌≤◌};
 use crate::campaign::trials;
 use crate::clock::{now, since};
 use state::State;
+use std::io;
+use std::time::Clock;
 
 // Calls: one each of the trials from 2 on.
 #[derive(Clone, Copy)]
@@ -51,15 +53,15 @@ fn done(work: Work, state: State, turns: u64) -> State {
     }
 }
 
-fn batch(work: Work, state: State, turns: u64) -> Timed {
-    let from = now();
+fn batch(rt: &impl Clock, work: Work, state: State, turns: u64) -> io::Result<Timed> {
+    let from = now(rt)?;
     let after = done(work, state, turns);
-    let ns = since(from);
-    Timed {
+    let ns = since(rt, from)?;
+    Ok(Timed {
         ns,
         word: after.word,
         n_trials: after.n_trials,
-    }
+    })
 }
 
 pub fn least(a: u64, b: u64) -> u64 {
@@ -67,21 +69,21 @@ pub fn least(a: u64, b: u64) -> u64 {
 }
 
 // The least time of fifty batches. Each starts from the same state, but for the word that the one before left.
-pub fn best(work: Work, state: State, turns: u64) -> Timed {
+pub fn best(rt: &impl Clock, work: Work, state: State, turns: u64) -> io::Result<Timed> {
     let mut s = state;
     let mut ns: u64 = 18446744073709551615;
     let mut n_trials: usize = 0;
     let mut i: u64 = 0;
     while i < 50 {
-        let t = batch(work, s, turns);
+        let t = batch(rt, work, s, turns)?;
         s.word = t.word;
         n_trials = t.n_trials;
         ns = least(ns, t.ns);
         i += 1;
     }
-    Timed {
+    Ok(Timed {
         ns,
         word: s.word,
         n_trials,
-    }
+    })
 }

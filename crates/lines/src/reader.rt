@@ -1,7 +1,7 @@
-// Standard input, a line at a time.
+// A reader, a line at a time.
 ghost use Rattle.lines.specs.Reading.{ShortLine};
 
-use libc::STDIN_FILENO;
+use std::io::Read;
 
 // The bytes of the input buffer from `at` to `end` are still to be taken; `line` lines have begun.
 #[derive(Clone, Copy)]
@@ -62,18 +62,17 @@ fn from_buffer(input: &[u8; 65536], cursor: Cursor) -> Taken {
 }
 
 // The next byte, after a read where the buffer is used up.
-fn next_byte(input: &mut [u8; 65536], cursor: Cursor) -> Taken {
+fn next_byte<R: Read>(from: &mut R, input: &mut [u8; 65536], cursor: Cursor) -> Taken {
     let mut c = cursor;
     if c.at < c.end {
         return from_buffer(input, c);
     }
-    let got = libc::read(STDIN_FILENO, input);
-    if got < 0 {
+    let Ok(got) = from.read(input) else {
         return Taken {
             byte: Byte::Failed,
             cursor: c,
         };
-    }
+    };
     if got == 0 {
         return Taken {
             byte: Byte::End,
@@ -81,7 +80,7 @@ fn next_byte(input: &mut [u8; 65536], cursor: Cursor) -> Taken {
         };
     }
     c.at = 0;
-    c.end = io::count(got, input);
+    c.end = got;
     from_buffer(input, c)
 }
 
@@ -100,14 +99,19 @@ fn counted(n: u64) -> u64 {
 }
 
 // The next line, put at the start of `line`.
-pub fn next_line(input: &mut [u8; 65536], line: &mut [u8; 512], cursor: Cursor) -> Fetched
+pub fn next_line<R: Read>(
+    from: &mut R,
+    input: &mut [u8; 65536],
+    line: &mut [u8; 512],
+    cursor: Cursor,
+) -> Fetched
     ensures { ShortLine result.line }
 {
     let mut c = cursor;
     c.line = counted(c.line);
     let mut n: usize = 0;
     while n <= 512 {
-        let t = next_byte(input, c);
+        let t = next_byte(from, input, c);
         c = t.cursor;
         let byte = t.byte;
         let Byte::Is(b) = byte else {

@@ -10,6 +10,7 @@ ghost use Rattle.lines.specs.Hearing.{held, Hears};
 use crate::kept::{make, put};
 use crate::reader::{Cursor, Line, next_line};
 use script::Command;
+use std::io::Read;
 
 // What a line comes to.
 #[derive(Clone, Copy)]
@@ -143,7 +144,8 @@ fn hear_fetched(
 
 // Takes in lines up to the next one that asks something. A proved loop has to end, and nothing says that the input does:
 // the turns count down from a number that no run uses up.
-pub fn next_asked(
+pub fn next_asked<R: Read>(
+    from: &mut R,
     input: &mut [u8; 65536],
     line: &mut [u8; 512],
     numbers: &mut [u64; 65536],
@@ -160,7 +162,7 @@ pub fn next_asked(
     let mut l = length;
     let mut turns = u64::MAX;
     while turns > 0 {
-        let f = next_line(input, line, c);
+        let f = next_line(from, input, line, c);
         c = f.cursor;
         let fetched = f.line;
         let heard = hear_fetched(fetched, line, numbers, values, file, n, l);

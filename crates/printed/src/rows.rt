@@ -6,6 +6,7 @@ ghost use Rattle.saved.specs.Restore.{file_refusal_number};
 use crate::sink::{Sink, put, put_byte, put_double, put_signed, put_whole};
 use distribution::{ParamValue, Refusal};
 use saved::FileRefusal;
+use std::io::Write;
 
 // Document 01's number.
 pub fn refusal_number(refusal: Refusal) -> u64
@@ -45,99 +46,134 @@ pub fn least(a: usize, b: usize) -> usize
 }
 
 // `malformed LINE`.
-pub fn malformed_row(out: &mut [u8; 8192], sink: Sink, line: u64) -> Sink {
-    let a = put(out, sink, b"malformed ");
-    let b = put_whole(out, a, line);
-    put(out, b, b"\n")
+pub fn malformed_row<W: Write>(to: &mut W, out: &mut [u8; 8192], sink: Sink, line: u64) -> Sink {
+    let a = put(to, out, sink, b"malformed ");
+    let b = put_whole(to, out, a, line);
+    put(to, out, b, b"\n")
 }
 
 // `refused K`.
-fn number_row(out: &mut [u8; 8192], sink: Sink, number: u64) -> Sink {
-    let a = put(out, sink, b"refused ");
-    let b = put_whole(out, a, number);
-    put(out, b, b"\n")
+fn number_row<W: Write>(to: &mut W, out: &mut [u8; 8192], sink: Sink, number: u64) -> Sink {
+    let a = put(to, out, sink, b"refused ");
+    let b = put_whole(to, out, a, number);
+    put(to, out, b, b"\n")
 }
 
-pub fn refused_row(out: &mut [u8; 8192], sink: Sink, refusal: Refusal) -> Sink {
-    number_row(out, sink, refusal_number(refusal))
+pub fn refused_row<W: Write>(
+    to: &mut W,
+    out: &mut [u8; 8192],
+    sink: Sink,
+    refusal: Refusal,
+) -> Sink {
+    number_row(to, out, sink, refusal_number(refusal))
 }
 
-pub fn file_refused_row(out: &mut [u8; 8192], sink: Sink, refusal: FileRefusal) -> Sink {
-    number_row(out, sink, file_refusal_number(refusal))
+pub fn file_refused_row<W: Write>(
+    to: &mut W,
+    out: &mut [u8; 8192],
+    sink: Sink,
+    refusal: FileRefusal,
+) -> Sink {
+    number_row(to, out, sink, file_refusal_number(refusal))
 }
 
 // `saved LENGTH`.
-pub fn saved_row(out: &mut [u8; 8192], sink: Sink, length: usize) -> Sink {
-    let a = put(out, sink, b"saved");
-    let b = put_next(out, a, length as u64);
-    put(out, b, b"\n")
+pub fn saved_row<W: Write>(to: &mut W, out: &mut [u8; 8192], sink: Sink, length: usize) -> Sink {
+    let a = put(to, out, sink, b"saved");
+    let b = put_next(to, out, a, length as u64);
+    put(to, out, b, b"\n")
 }
 
 // A space and a number.
-pub fn put_next(out: &mut [u8; 8192], sink: Sink, n: u64) -> Sink {
-    let a = put(out, sink, b" ");
-    put_whole(out, a, n)
+pub fn put_next<W: Write>(to: &mut W, out: &mut [u8; 8192], sink: Sink, n: u64) -> Sink {
+    let a = put(to, out, sink, b" ");
+    put_whole(to, out, a, n)
 }
 
 // A space and a double.
-pub fn put_next_double(out: &mut [u8; 8192], sink: Sink, x: f64) -> Sink {
-    let a = put(out, sink, b" ");
-    put_double(out, a, x)
+pub fn put_next_double<W: Write>(to: &mut W, out: &mut [u8; 8192], sink: Sink, x: f64) -> Sink {
+    let a = put(to, out, sink, b" ");
+    put_double(to, out, a, x)
 }
 
-fn put_float(out: &mut [u8; 8192], sink: Sink, x: f64) -> Sink {
-    let a = put(out, sink, b"float ");
-    put_double(out, a, x)
+fn put_float<W: Write>(to: &mut W, out: &mut [u8; 8192], sink: Sink, x: f64) -> Sink {
+    let a = put(to, out, sink, b"float ");
+    put_double(to, out, a, x)
 }
 
-fn put_int(out: &mut [u8; 8192], sink: Sink, k: i64) -> Sink {
-    let a = put(out, sink, b"int ");
-    put_signed(out, a, k)
+fn put_int<W: Write>(to: &mut W, out: &mut [u8; 8192], sink: Sink, k: i64) -> Sink {
+    let a = put(to, out, sink, b"int ");
+    put_signed(to, out, a, k)
 }
 
-fn put_choice(out: &mut [u8; 8192], sink: Sink, index: u64) -> Sink {
-    let a = put(out, sink, b"choice ");
-    put_whole(out, a, index)
+fn put_choice<W: Write>(to: &mut W, out: &mut [u8; 8192], sink: Sink, index: u64) -> Sink {
+    let a = put(to, out, sink, b"choice ");
+    put_whole(to, out, a, index)
 }
 
 // The setting's kind and value.
-fn put_setting(out: &mut [u8; 8192], sink: Sink, setting: ParamValue) -> Sink {
+fn put_setting<W: Write>(
+    to: &mut W,
+    out: &mut [u8; 8192],
+    sink: Sink,
+    setting: ParamValue,
+) -> Sink {
     match setting {
-        ParamValue::Float(x) => put_float(out, sink, x),
-        ParamValue::Int(k) => put_int(out, sink, k),
-        ParamValue::Categorical(index) => put_choice(out, sink, index),
+        ParamValue::Float(x) => put_float(to, out, sink, x),
+        ParamValue::Int(k) => put_int(to, out, sink, k),
+        ParamValue::Categorical(index) => put_choice(to, out, sink, index),
     }
 }
 
 // `float BITS DRAWS` and its like.
-pub fn setting_row(out: &mut [u8; 8192], sink: Sink, setting: ParamValue, draws: u64) -> Sink {
-    let a = put_setting(out, sink, setting);
-    let b = put_next(out, a, draws);
-    put(out, b, b"\n")
+pub fn setting_row<W: Write>(
+    to: &mut W,
+    out: &mut [u8; 8192],
+    sink: Sink,
+    setting: ParamValue,
+    draws: u64,
+) -> Sink {
+    let a = put_setting(to, out, sink, setting);
+    let b = put_next(to, out, a, draws);
+    put(to, out, b, b"\n")
 }
 
 // The slots' values.
-fn put_values(out: &mut [u8; 8192], sink: Sink, values: [f64; 160], count: usize) -> Sink {
+fn put_values<W: Write>(
+    to: &mut W,
+    out: &mut [u8; 8192],
+    sink: Sink,
+    values: [f64; 160],
+    count: usize,
+) -> Sink {
     let n = least(count, 160);
     let mut s = sink;
     let mut i: usize = 0;
     while i < n {
-        s = put_next_double(out, s, values[i]);
+        s = put_next_double(to, out, s, values[i]);
         i += 1;
     }
     s
 }
 
 // `look BEST CLOSED IDLE`.
-fn put_counters(out: &mut [u8; 8192], sink: Sink, best: usize, closed: u32, idle: u32) -> Sink {
-    let a = put(out, sink, b"look");
-    let b = put_next(out, a, best as u64);
-    let c = put_next(out, b, closed as u64);
-    put_next(out, c, idle as u64)
+fn put_counters<W: Write>(
+    to: &mut W,
+    out: &mut [u8; 8192],
+    sink: Sink,
+    best: usize,
+    closed: u32,
+    idle: u32,
+) -> Sink {
+    let a = put(to, out, sink, b"look");
+    let b = put_next(to, out, a, best as u64);
+    let c = put_next(to, out, b, closed as u64);
+    put_next(to, out, c, idle as u64)
 }
 
 // `look BEST CLOSED IDLE V0 V1 ..`.
-pub fn best_row(
+pub fn best_row<W: Write>(
+    to: &mut W,
     out: &mut [u8; 8192],
     sink: Sink,
     best: usize,
@@ -146,34 +182,41 @@ pub fn best_row(
     values: [f64; 160],
     count: usize,
 ) -> Sink {
-    let a = put_counters(out, sink, best, closed, idle);
-    let b = put_values(out, a, values, count);
-    put(out, b, b"\n")
+    let a = put_counters(to, out, sink, best, closed, idle);
+    let b = put_values(to, out, a, values, count);
+    put(to, out, b, b"\n")
 }
 
 // The bytes from `at` to `end`.
-fn byte_row(out: &mut [u8; 8192], sink: Sink, file: &[u8], at: usize, end: usize) -> Sink
+fn byte_row<W: Write>(
+    to: &mut W,
+    out: &mut [u8; 8192],
+    sink: Sink,
+    file: &[u8],
+    at: usize,
+    end: usize,
+) -> Sink
     requires { end ≤ length file.now }
 {
     let mut s = sink;
     let mut i = at;
     while i < end {
-        s = put_byte(out, s, file[i]);
+        s = put_byte(to, out, s, file[i]);
         i += 1;
     }
-    put(out, s, b"\n")
+    put(to, out, s, b"\n")
 }
 
 // Rows of 32 bytes, the last of what is left.
-pub fn byte_rows(out: &mut [u8; 8192], sink: Sink, file: &[u8]) -> Sink {
+pub fn byte_rows<W: Write>(to: &mut W, out: &mut [u8; 8192], sink: Sink, file: &[u8]) -> Sink {
     let mut s = sink;
     let mut at: usize = 0;
     while 32 < file.len() - at {
-        s = byte_row(out, s, file, at, at + 32);
+        s = byte_row(to, out, s, file, at, at + 32);
         at += 32;
     }
     if at < file.len() {
-        return byte_row(out, s, file, at, file.len());
+        return byte_row(to, out, s, file, at, file.len());
     }
     s
 }

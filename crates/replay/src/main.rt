@@ -5,16 +5,16 @@
 
 use asked::session::{Run, Step, obey};
 use de::build::DESamplerBuilder;
-use libc::STDERR_FILENO;
 use lines::reader::Cursor;
 use lines::told::Heard;
 use printed::sink::Sink;
 use state::State;
+use std::io::Write;
 
 // A run that no further line is read for: the script has ended, or a read failed.
-fn stop(run: Run, heard: Heard) -> Run {
+fn stop<E: Write>(errors: &mut E, run: Run, heard: Heard) -> Run {
     if let Heard::Failed = heard {
-        io::write_all(STDERR_FILENO, b"replay: standard input cannot be read\n");
+        let _ = errors.write_all(b"replay: standard input cannot be read\n");
     }
     let mut r = run;
     r.stopped = true;
@@ -22,7 +22,9 @@ fn stop(run: Run, heard: Heard) -> Run {
 }
 
 // What was heard, the end of the script among it.
-fn answer<'a>(
+fn answer<'a, W: Write, E: Write>(
+    to: &mut W,
+    errors: &mut E,
     out: &mut [u8; 8192],
     run: Run,
     state: State,
@@ -32,22 +34,19 @@ fn answer<'a>(
     file: &mut [u8; 81920],
 ) -> Step {
     match heard {
-        Heard::Ask(command) => obey(out, run, state, command, numbers, values, file),
+        Heard::Ask(command) => obey(to, out, run, state, command, numbers, values, file),
         _ => Step {
             state,
-            run: stop(run, heard),
+            run: stop(errors, run, heard),
         },
     }
 }
 
 // Writes what waits at the run's end.
-fn finish(out: &[u8; 8192], sink: Sink) {
-    let s = printed::sink::flush(out, sink);
+fn finish<W: Write, E: Write>(to: &mut W, errors: &mut E, out: &[u8; 8192], sink: Sink) {
+    let s = printed::sink::flush(to, out, sink);
     if !s.ok {
-        io::write_all(
-            STDERR_FILENO,
-            b"replay: standard output cannot be written\n",
-        );
+        let _ = errors.write_all(b"replay: standard output cannot be written\n");
     }
 }
 
@@ -91,8 +90,11 @@ fn over(run: Run) -> bool {
     !sink.ok
 }
 
-fn main() {
-    let mut input = io::large_buffer();
+fn main(rt: HostRuntime) {
+    let mut from = rt.stdin();
+    let mut to = rt.stdout();
+    let mut errors = rt.stderr();
+    let mut input = [0u8; 65536];
     let mut line = [0u8; 512];
     let mut numbers = [0u64; 65536];
     let mut values = [0.0f64; 65536];
@@ -103,6 +105,7 @@ fn main() {
     let mut turns = u64::MAX;
     while turns > 0 {
         let asked = lines::told::next_asked(
+            &mut from,
             &mut input,
             &mut line,
             &mut numbers,
@@ -114,7 +117,17 @@ fn main() {
         );
         run = taken(run, asked.cursor, asked.count, asked.length);
         let heard = asked.heard;
-        let step = answer(&mut out, run, state, heard, &numbers, &values, &mut file);
+        let step = answer(
+            &mut to,
+            &mut errors,
+            &mut out,
+            run,
+            state,
+            heard,
+            &numbers,
+            &values,
+            &mut file,
+        );
         state = step.state;
         run = step.run;
         if over(run) {
@@ -122,5 +135,5 @@ fn main() {
         }
         turns -= 1;
     }
-    finish(&out, run.sink);
+    finish(&mut to, &mut errors, &out, run.sink);
 }

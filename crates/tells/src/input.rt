@@ -1,8 +1,8 @@
-// Standard input, read whole.
+// A reader, read whole.
 ghost use Rattle.std.specs.Prelude.{length};
 ghost use Rattle.tells.specs.Input.{Within};
 
-use libc::STDIN_FILENO;
+use std::io::Read;
 
 // What came of reading into a lent text.
 #[derive(Clone, Copy)]
@@ -16,16 +16,14 @@ pub enum Input {
 }
 
 // Reads until the input ends, which is where a read brings nothing, or until the text is full.
-pub fn read_input(text: &mut [u8]) -> Input
+pub fn read_input<R: Read>(from: &mut R, text: &mut [u8]) -> Input
     ensures { Within (length text.new) result }
 {
     let mut at: usize = 0;
     while at < text.len() {
-        let got = libc::read(STDIN_FILENO, &mut text[at..]);
-        if got < 0 {
+        let Ok(n) = from.read(&mut text[at..]) else {
             return Input::Failed;
-        }
-        let n = io::count(got, &text[at..]);
+        };
         if n == 0 {
             return Input::Whole(at);
         }

@@ -5,21 +5,21 @@
 // `too long`: they are never read well into 65,536 places (proofs/Longest), and which refusal applies is not looked at.
 // A read that fails gives `unread`. `replay` answers each of these with `malformed`, so that none passes unseen in a pipe.
 // What a row holds is proved (rows.rt), and that a script reads it back as its entry (proofs/ToldBack). That standard
-// output then receives it is no contract: libc's write promises nothing of what it writes. A read or a write that
+// output then receives it is no contract: nothing is promised of what its writer writes. A read or a write that
 // failed is also said on standard error. The program needs 3.6 MB of stack.
 #![tactic(auto)]
 
 ghost use Rattle.std.specs.Prelude.{◌≤◌, length};
 
 use input::Input;
-use libc::{STDERR_FILENO, STDOUT_FILENO};
 use metrics::{ExportRefusal, ReadAnswer};
+use std::io::{Read, Write};
 
 mod input;
 mod rows;
 
 // A `tell` line for each entry, written in blocks; false where a write failed.
-fn write_tells<'a>(numbers: &'a [u64], values: &'a [f64]) -> bool
+fn write_tells<'a, W: Write>(to: &mut W, numbers: &'a [u64], values: &'a [f64]) -> bool
     requires { length numbers.now ≤ length values.now }
 {
     let mut block = [0u8; 8192];
@@ -27,7 +27,7 @@ fn write_tells<'a>(numbers: &'a [u64], values: &'a [f64]) -> bool
     while i < numbers.len() {
         let f = rows::fill(&mut block, numbers, values, i);
         let n = f.length;
-        if !io::write_all(STDOUT_FILENO, &block[..n]) {
+        if to.write_all(&block[..n]).is_err() {
             return false;
         }
         i = f.next;
@@ -35,46 +35,70 @@ fn write_tells<'a>(numbers: &'a [u64], values: &'a [f64]) -> bool
     true
 }
 
-fn write_refusal(why: ExportRefusal) -> bool {
+fn write_refusal<W: Write>(to: &mut W, why: ExportRefusal) -> bool {
     let mut row = [0u8; 32];
     let k = rows::refused_row(&mut row, why);
-    io::write_all(STDOUT_FILENO, &row[..k])
+    to.write_all(&row[..k]).is_ok()
 }
 
 // The export, which is the text's first `size` bytes, read, and what it gives written.
-fn answer(text: &[u8], size: usize, numbers: &mut [u64], values: &mut [f64]) -> bool
+fn answer<W: Write>(
+    to: &mut W,
+    text: &[u8],
+    size: usize,
+    numbers: &mut [u64],
+    values: &mut [f64],
+) -> bool
     requires { size ≤ length text.now }
 {
     match metrics::read_history_slices(&text[..size], numbers, values) {
-        ReadAnswer::Count(n) => write_tells(&numbers[..n], &values[..n]),
-        ReadAnswer::Refused(why) => write_refusal(why),
+        ReadAnswer::Count(n) => write_tells(to, &numbers[..n], &values[..n]),
+        ReadAnswer::Refused(why) => write_refusal(to, why),
     }
 }
 
 // An input that cannot be read is a line on standard output too, so that it does not pass for an empty export.
-fn write_unread() -> bool {
-    io::write_all(STDERR_FILENO, b"tells: standard input cannot be read\n");
-    io::write_all(STDOUT_FILENO, b"unread\n")
+fn write_unread<W: Write, E: Write>(to: &mut W, errors: &mut E) -> bool {
+    let _ = errors.write_all(b"tells: standard input cannot be read\n");
+    to.write_all(b"unread\n").is_ok()
 }
 
-fn finish(ok: bool) {
+fn finish<E: Write>(errors: &mut E, ok: bool) {
     if !ok {
-        io::write_all(STDERR_FILENO, b"tells: standard output cannot be written\n");
+        let _ = errors.write_all(b"tells: standard output cannot be written\n");
     }
 }
 
 // The text is one byte longer than the input may be, so that a full text is an input that is too long.
-fn run(text: &mut [u8; 2555905], numbers: &mut [u64; 65536], values: &mut [f64; 65536]) {
-    match input::read_input(text) {
-        Input::Whole(n) => finish(answer(text, n, numbers, values)),
-        Input::Full => finish(io::write_all(STDOUT_FILENO, b"too long\n")),
-        Input::Failed => finish(write_unread()),
-    }
+fn run<R: Read, W: Write, E: Write>(
+    from: &mut R,
+    to: &mut W,
+    errors: &mut E,
+    text: &mut [u8; 2555905],
+    numbers: &mut [u64; 65536],
+    values: &mut [f64; 65536],
+) {
+    let ok = match input::read_input(from, text) {
+        Input::Whole(n) => answer(to, text, n, numbers, values),
+        Input::Full => to.write_all(b"too long\n").is_ok(),
+        Input::Failed => write_unread(to, errors),
+    };
+    finish(errors, ok)
 }
 
-fn main() {
+fn main(rt: HostRuntime) {
+    let mut from = rt.stdin();
+    let mut to = rt.stdout();
+    let mut errors = rt.stderr();
     let mut text = [0u8; 2555905];
     let mut numbers = [0u64; 65536];
     let mut values = [0.0f64; 65536];
-    run(&mut text, &mut numbers, &mut values);
+    run(
+        &mut from,
+        &mut to,
+        &mut errors,
+        &mut text,
+        &mut numbers,
+        &mut values,
+    );
 }

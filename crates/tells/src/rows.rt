@@ -18,7 +18,7 @@ fn put(block: &mut [u8], at: usize, text: &[u8]) -> usize
     ensures end { result ≡ at + length text.now }
     ensures text { take result block.new ≡ take at block.old ++ text.now }
 {
-    bytes::copy(text, &mut block[at..]);
+    block[at..at + text.len()].copy_from_slice(text);
     at + text.len()
 }
 

@@ -4,6 +4,7 @@ use crate::calls::{call, one_more, unit_interval};
 use crate::show::figure;
 use de::build::{DESamplerBuilder, new_state};
 use state::State;
+use std::io;
 
 // k calls of trial 1.
 fn discover(state: State, k: usize) -> State {
@@ -16,38 +17,41 @@ fn discover(state: State, k: usize) -> State {
     s
 }
 
-fn sixteenth(fifteen: State) {
+fn sixteenth(rt: &impl Print, fifteen: State) -> io::Result<()> {
     let s = call(fifteen, unit_interval(), 1);
     let answer = s.answer;
     let after = s.state;
     figure(
-        b"the 16th dimension passes",
+        rt,
+        "the 16th dimension passes",
         has_setting(answer) && s.draws == 1 && after.n_dims == 16,
-    );
+    )
 }
 
-fn seventeenth(sixteen: State) {
+fn seventeenth(rt: &impl Print, sixteen: State) -> io::Result<()> {
     let s = call(sixteen, unit_interval(), 1);
     figure(
-        b"the 17th dimension is 9, and changes nothing",
+        rt,
+        "the 17th dimension is 9, and changes nothing",
         refused(sixteen, s, 9),
-    );
+    )
 }
 
 // Another trial ends discovery: unset, 16 continuous dimensions make N = 160.
-fn ended(sixteen: State) {
+fn ended(rt: &impl Print, sixteen: State) -> io::Result<()> {
     let s = one_more(sixteen, 2);
     figure(
-        b"size unset, n = 16 is N = 160",
+        rt,
+        "size unset, n = 16 is N = 160",
         s.n == 160 && s.n_trials == 1,
-    );
+    )
 }
 
-pub fn dimensions() {
+pub fn dimensions(rt: &impl Print) -> io::Result<()> {
     let b = DESamplerBuilder::new().seed(7);
     let fifteen = discover(new_state(b.setup), 15);
-    sixteenth(fifteen);
+    sixteenth(rt, fifteen)?;
     let sixteen = one_more(fifteen, 1);
-    seventeenth(sixteen);
-    ended(sixteen);
+    seventeenth(rt, sixteen)?;
+    ended(rt, sixteen)
 }

@@ -3,44 +3,47 @@ use crate::show::figure;
 use distribution::{
     Distribution, FloatDistribution, FloatStep, IntDistribution, IntStep, ParamValue,
 };
-use libc::STDOUT_FILENO;
+use std::io;
 
 // The published outputs of seed 1234567, a line each.
-fn output(word: u64) -> u64 {
+fn output(rt: &impl Print, word: u64) -> io::Result<u64> {
     let s = rng_util::next(word);
-    io::print_decimal(STDOUT_FILENO, s.output);
-    io::write_all(STDOUT_FILENO, b"\n");
-    s.word
+    let n = s.output;
+    println!(rt; "{n}")?;
+    Ok(s.word)
 }
 
-pub fn published() {
-    let w1 = output(1234567);
-    let w2 = output(w1);
-    let w3 = output(w2);
-    let w4 = output(w3);
-    output(w4);
+pub fn published(rt: &impl Print) -> io::Result<()> {
+    let w1 = output(rt, 1234567)?;
+    let w2 = output(rt, w1)?;
+    let w3 = output(rt, w2)?;
+    let w4 = output(rt, w3)?;
+    output(rt, w4)
 }
 
-pub fn units() {
-    figure(b"unit of 0", rng_util::unit(0) == 0.0);
+pub fn units(rt: &impl Print) -> io::Result<()> {
+    figure(rt, "unit of 0", rng_util::unit(0) == 0.0)?;
     figure(
-        b"unit of 2^64 - 1",
+        rt,
+        "unit of 2^64 - 1",
         rng_util::unit(18446744073709551615) == 0.9999999999999999,
-    );
-    figure(b"usize(0..5) of 13", rng_util::usize_below(13, 5) == 3);
+    )?;
+    figure(rt, "usize(0..5) of 13", rng_util::usize_below(13, 5) == 3)?;
     figure(
-        b"range 1..1 + 2^-52",
+        rt,
+        "range 1..1 + 2^-52",
         rng_util::f64_range(1.0, 1.0000000000000002, 0.75) == 1.0000000000000002,
-    );
+    )
 }
 
-pub fn rounds() {
-    figure(b"round -2.5", rounding::round(-2.5) == -3.0);
-    figure(b"round 2.5", rounding::round(2.5) == 3.0);
+pub fn rounds(rt: &impl Print) -> io::Result<()> {
+    figure(rt, "round -2.5", rounding::round(-2.5) == -3.0)?;
+    figure(rt, "round 2.5", rounding::round(2.5) == 3.0)?;
     figure(
-        b"round 0.49999999999999994",
+        rt,
+        "round 0.49999999999999994",
         rounding::round(0.49999999999999994) == 0.0,
-    );
+    )
 }
 
 fn is_float(p: ParamValue, x: f64) -> bool {
@@ -59,7 +62,7 @@ fn is_int(p: ParamValue, x: i64) -> bool {
     }
 }
 
-pub fn steps() {
+pub fn steps(rt: &impl Print) -> io::Result<()> {
     let quarters = Distribution::Float(FloatDistribution {
         low: 0.0,
         high: 1.0,
@@ -73,20 +76,23 @@ pub fn steps() {
         step: IntStep::By(4),
     });
     figure(
-        b"Float 0..1 step 0.25 of 0.625",
+        rt,
+        "Float 0..1 step 0.25 of 0.625",
         is_float(common::from_internal(0.625, quarters), 0.75),
-    );
+    )?;
     figure(
-        b"Int 1..11 step 4 of 11",
+        rt,
+        "Int 1..11 step 4 of 11",
         is_int(common::from_internal(11.0, fours), 11),
-    );
+    )?;
     figure(
-        b"Int 1..11 step 4 of 8",
+        rt,
+        "Int 1..11 step 4 of 8",
         is_int(common::from_internal(8.0, fours), 9),
-    );
+    )
 }
 
-pub fn last_entry() {
+pub fn last_entry(rt: &impl Print) -> io::Result<()> {
     let numbers = [7u64; 2];
     let values = [5.0f64, 2.0];
     let mut wanted = [0u64; 160];
@@ -101,5 +107,5 @@ pub fn last_entry() {
         values: results,
     };
     let g = history::gather_slices(&numbers, &values, 7, 7, from);
-    figure(b"history (7, 5), (7, 2)", g.values[0] == 2.0);
+    figure(rt, "history (7, 5), (7, 2)", g.values[0] == 2.0)
 }

@@ -12,18 +12,20 @@ mod show;
 mod sizes;
 mod table;
 
-fn main() {
-    leaves::published();
-    leaves::units();
-    leaves::rounds();
-    leaves::steps();
-    leaves::last_entry();
-    table::setups();
-    table::distributions();
-    table::states();
-    table::histories();
-    sizes::sizes();
-    dimensions::dimensions();
-    extras::extras();
-    closings::closings();
+use std::io;
+
+fn main(rt: HostRuntime) -> io::Result<()> {
+    leaves::published(&rt)?;
+    leaves::units(&rt)?;
+    leaves::rounds(&rt)?;
+    leaves::steps(&rt)?;
+    leaves::last_entry(&rt)?;
+    table::setups(&rt)?;
+    table::distributions(&rt)?;
+    table::states(&rt)?;
+    table::histories(&rt)?;
+    sizes::sizes(&rt)?;
+    dimensions::dimensions(&rt)?;
+    extras::extras(&rt)?;
+    closings::closings(&rt)
 }

@@ -1,12 +1,11 @@
 // What a figure prints.
-use libc::STDOUT_FILENO;
+use std::io;
 
 // A figure: its name, and whether it came out.
-pub fn figure(name: &[u8], right: bool) {
-    io::write_all(STDOUT_FILENO, name);
+pub fn figure(rt: &impl Print, name: &str, right: bool) -> io::Result<()> {
     if right {
-        io::write_all(STDOUT_FILENO, b": as expected\n");
+        println!(rt; "{name}: as expected")
     } else {
-        io::write_all(STDOUT_FILENO, b": NOT as expected\n");
+        println!(rt; "{name}: NOT as expected")
     }
 }

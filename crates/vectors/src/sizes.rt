@@ -3,6 +3,7 @@ use crate::answers::{build_refused, built};
 use crate::calls::discovered;
 use crate::show::figure;
 use de::build::{Built, DESamplerBuilder};
+use std::io;
 
 fn with_size(size: u64) -> Built {
     DESamplerBuilder::new().population_size(size).build()
@@ -13,12 +14,12 @@ fn n_of(size: u64) -> usize {
     s.n
 }
 
-pub fn sizes() {
-    figure(b"size 160 passes", built(with_size(160)));
-    figure(b"size 161 is 3", build_refused(with_size(161), 3));
-    figure(b"size 0 is N = 4", n_of(0) == 4);
-    figure(b"size 3 is N = 4", n_of(3) == 4);
-    figure(b"size 4 is N = 4", n_of(4) == 4);
-    figure(b"size 5 is N = 5", n_of(5) == 5);
-    figure(b"size 160 is N = 160", n_of(160) == 160);
+pub fn sizes(rt: &impl Print) -> io::Result<()> {
+    figure(rt, "size 160 passes", built(with_size(160)))?;
+    figure(rt, "size 161 is 3", build_refused(with_size(161), 3))?;
+    figure(rt, "size 0 is N = 4", n_of(0) == 4)?;
+    figure(rt, "size 3 is N = 4", n_of(3) == 4)?;
+    figure(rt, "size 4 is N = 4", n_of(4) == 4)?;
+    figure(rt, "size 5 is N = 5", n_of(5) == 5)?;
+    figure(rt, "size 160 is N = 160", n_of(160) == 160)
 }

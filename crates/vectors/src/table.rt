@@ -9,13 +9,14 @@ use distribution::{
 };
 use slots::look;
 use state::State;
+use std::io;
 
 // 1 and 2.
-pub fn setups() {
+pub fn setups(rt: &impl Print) -> io::Result<()> {
     let high = DESamplerBuilder::new().mutation_factor(2.5).build();
-    figure(b"F = 2.5 is 1", build_refused(high, 1));
+    figure(rt, "F = 2.5 is 1", build_refused(high, 1))?;
     let low = DESamplerBuilder::new().crossover_rate(-0.1).build();
-    figure(b"CR = -0.1 is 2", build_refused(low, 2));
+    figure(rt, "CR = -0.1 is 2", build_refused(low, 2))
 }
 
 fn int(low: i64, high: i64, step: IntStep) -> Distribution {
@@ -33,7 +34,7 @@ fn distribution_refused(state: State, d: Distribution, n: u64) -> bool {
 }
 
 // 4 to 7, each a first call.
-pub fn distributions() {
+pub fn distributions(rt: &impl Print) -> io::Result<()> {
     let state = fresh(4);
     let upside_down = int(3, 2, IntStep::Unset);
     let logarithmic = Distribution::Float(FloatDistribution {
@@ -45,37 +46,40 @@ pub fn distributions() {
     let still = int(1, 9, IntStep::By(0));
     let empty = Distribution::Categorical(CategoricalDistribution { n_choices: 0 });
     figure(
-        b"Int 3..2 is 4",
+        rt,
+        "Int 3..2 is 4",
         distribution_refused(state, upside_down, 4),
-    );
+    )?;
     figure(
-        b"Float 1..10, log is 5",
+        rt,
+        "Float 1..10, log is 5",
         distribution_refused(state, logarithmic, 5),
-    );
+    )?;
     figure(
-        b"Int 1..9, step 0 is 6",
+        rt,
+        "Int 1..9, step 0 is 6",
         distribution_refused(state, still, 6),
-    );
-    figure(b"0 choices is 7", distribution_refused(state, empty, 7));
+    )?;
+    figure(rt, "0 choices is 7", distribution_refused(state, empty, 7))
 }
 
 // 0, of the sample call and of the look call.
-pub fn states() {
+pub fn states(rt: &impl Print) -> io::Result<()> {
     let mut state = discovered(4);
     state.n = 3;
     let s = call(state, unit_interval(), 3);
-    figure(b"N = 3 after discovery is 0", refused(state, s, 0));
+    figure(rt, "N = 3 after discovery is 0", refused(state, s, 0))?;
     let l = look(state);
     let answer = l.look;
-    figure(b"look at N = 3 is 0", look_refused(answer, 0));
+    figure(rt, "look at N = 3 is 0", look_refused(answer, 0))
 }
 
 // 8.
-pub fn histories() {
+pub fn histories(rt: &impl Print) -> io::Result<()> {
     let state = discovered(4);
     let numbers = [7u64; 1];
     let zero = 0.0f64;
     let values = [zero / zero; 1];
     let s = sample_slices(state, unit_interval(), 3, &numbers, &values);
-    figure(b"history (7, NaN) is 8", refused(state, s, 8));
+    figure(rt, "history (7, NaN) is 8", refused(state, s, 8))
 }

@@ -2,4 +2,4 @@ use Prim.Native.Nat.{◌-◌}
 use Rattle.lines.proofs.reader.next_line.Goals as goal
 
 pub returns-in_default : goal.returns-in_default
-returns-in_default c = c.cut_short.ensures
+returns-in_default g c = c.cut_short.ensures

@@ -3,7 +3,7 @@ use Prim.Native.Nat.{◌-◌, ◌≤◌}
 use Rattle.lines.proofs.reader.next_line.Given as goal
 
 abbrev pub invariant-loop-n : goal.invariant-loop-n
-invariant-loop-n l = l.n ≤ 513
+invariant-loop-n g l = l.n ≤ 513
 
 abbrev pub decreases-loop-n : goal.decreases-loop-n
-decreases-loop-n l = 513 - l.n
+decreases-loop-n g l = 513 - l.n

@@ -4,6 +4,7 @@ use Prim.Native.Nat.{ℕ, min}
 use native.Mathlib.Omega.{arith}
 use lib.ListN.{length, take}
 use mathlib.Core.List.{List}
+use borrow.Enum.Refused.{opened}
 use Rattle.script.specs.declared.command.Command.{Command}
 use Rattle.script.specs.declared.command.Command.TheVariants.{Put}
 use Rattle.lines.specs.History.{told_to}
@@ -38,7 +39,7 @@ returns-in-Tell c =
     let room : min (length ns) (length vs) ≡ 65536 = omega arith in
     let e = sym c.said-command.ensures ∙ c.in-Tell.is in
     same_line _ ns vs f a.count a.length _ _ _ _ e
-    (told _ ns vs f a.count a.length _ _ _ _ _ (c.tell.ensures.0 ∙ ap (λ (k : ℕ). told_to k a.count a.length) room) c.tell.ensures.1.0 c.tell.ensures.1.1)
+    (told _ ns vs f a.count a.length _ _ _ _ _ (c.tell.ensures.value ∙ ap (λ (k : ℕ). told_to k a.count a.length) room) c.tell.ensures.fact c.tell.ensures.numbers_unchanged)
 
 pub returns-in-File : goal.returns-in-File
 returns-in-File c =
@@ -50,7 +51,7 @@ returns-in-File c =
     let room : length f ≡ 81920 = omega arith in
     let e = sym c.said-command.ensures ∙ c.in-File.is in
     same_line _ ns vs f a.count a.length _ _ _ _ e
-    (made _ ns vs f a.count a.length bytes _ _ (c.make.ensures.0 ∙ ap (λ (k : ℕ). made_to k a.count bytes) room) c.make.ensures.1.0 c.make.ensures.1.1)
+    (made _ ns vs f a.count a.length bytes _ _ (c.make.ensures.value ∙ ap (λ (k : ℕ). made_to k a.count bytes) room) c.make.ensures.by_index c.make.ensures.file_unchanged)
 
 pub returns-in-Put : goal.returns-in-Put
 returns-in-Put c =
@@ -61,8 +62,8 @@ returns-in-Put c =
     let at = c.in-Put.at in
     let e = sym c.said-command.ensures ∙ c.in-Put.is in
     same_line _ ns vs f a.count a.length _ _ _ _ e
-    (subst (λ (text : List ℕ). Hears text (Put at) a.count a.length (held ns vs f) (held ns vs c.put.new.1.0) c.put.result) c.first.ensures
-    (laid _ ns vs f a.count a.length at _ _ c.put.ensures.0 c.put.ensures.1.0 c.put.ensures.1.1))
+    (subst (λ (text : List ℕ). Hears text (Put at) a.count a.length (held ns vs f) (held ns vs c.put.new.file) c.put.result) c.first.ensures
+    (laid _ ns vs f a.count a.length at _ _ c.put.ensures.value c.put.ensures.fact c.put.ensures.file_unchanged))
 
 pub returns-in_default : goal.returns-in_default
 returns-in_default c =
@@ -72,4 +73,4 @@ returns-in_default c =
     let vs = a.values.now in
     let f = a.file.now in
     subst (λ (k : Command). Hears text k a.count a.length (held ns vs f) (held ns vs f) (Ask c.said-command.result)) c.said-command.ensures
-    (asked text ns vs f a.count a.length _ c.in_default.in_default-own.keys6)
+    (asked text ns vs f a.count a.length _ (opened c.in_default.in_default-own.keys6))

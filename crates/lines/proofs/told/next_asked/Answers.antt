@@ -1,6 +1,7 @@
 use mathlib.Core.List.{[], ◌∷◌}
 use mathlib.Core.Logic.{inl, inr}
 use native.Mathlib.Omega.{arith}
+use borrow.Enum.Refused.{opened}
 use types.Run.{OneOf}
 use denote.Enum.Declared.{tag_of}
 use Rattle.lines.specs.Reading.{HandedOn}
@@ -21,4 +22,4 @@ handed-on H.End k = tt
 handed-on H.Failed k = tt
 
 pub returns-in_default : goal.returns-in_default
-returns-in_default c = handed-on c.hear_fetched-heard.result c.in_default.in_default-own.keys2
+returns-in_default g c = handed-on c.hear_fetched-heard.result (opened c.in_default.in_default-own.keys2)
