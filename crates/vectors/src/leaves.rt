@@ -18,7 +18,8 @@ pub fn published(rt: &impl Print) -> io::Result<()> {
     let w2 = output(rt, w1)?;
     let w3 = output(rt, w2)?;
     let w4 = output(rt, w3)?;
-    output(rt, w4)
+    output(rt, w4)?;
+    Ok(())
 }
 
 pub fn units(rt: &impl Print) -> io::Result<()> {

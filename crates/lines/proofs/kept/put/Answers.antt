@@ -15,7 +15,7 @@ returns-then-put_bytes c =
     let a = c.args in
     let least = c.least-end in
     let put-bytes = c.put_bytes in
-    let p = put_in a.file.now put-bytes.new.file (put_bytes a.line.now) a.count a.kept a.at least.result least.ensures put-bytes.ensures.1 (sym c.if-put_bytes.true ∙ put-bytes.ensures.0) in
+    let p = put_in a.file.now put-bytes.new.file (put_bytes a.line.now) a.count a.kept a.at least.result least.ensures put-bytes.ensures.file_after (sym c.if-put_bytes.true ∙ put-bytes.ensures.value) in
     record { value = p.0; fact = p.1; file_unchanged = λ d q. no-ask _ _ d q }
 
 pub returns : goal.returns
@@ -23,5 +23,5 @@ returns c =
     let a = c.args in
     let least = c.least-end in
     let put-bytes = c.put_bytes in
-    let p = put-not a.file.now put-bytes.new.file (put_bytes a.line.now) a.count a.kept a.at least.result least.ensures put-bytes.ensures.1 (sym c.if-put_bytes.false ∙ put-bytes.ensures.0) in
+    let p = put-not a.file.now put-bytes.new.file (put_bytes a.line.now) a.count a.kept a.at least.result least.ensures put-bytes.ensures.file_after (sym c.if-put_bytes.false ∙ put-bytes.ensures.value) in
     record { value = p.0; fact = λ m k q. no-quiet _ m k q; file_unchanged = λ d q. p.1 }
