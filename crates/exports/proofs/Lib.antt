@@ -1,5 +1,4 @@
 pub mod Stored
-pub mod Lent
 pub mod Edge
 pub mod Demand
 pub mod Ceiling

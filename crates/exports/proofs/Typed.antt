@@ -11,13 +11,14 @@ use mir.Syntax.{w64}
 use mir.Val.{Val, vint, vbool, vstruct, of_list}
 use types.Match.{live}
 use denote.Array.{each, array_val}
+use denote.Builtin.{Array}
 use denote.Enum.Declared as E
 use denote.Enum.Enum.{payload}
 use denote.Laws.{Is}
 use denote.RattleType.{Valss, flat}
 use denote.Shadow.{shadow}
 use denote.Struct.Declared as D
-use denote.Struct.Field.{Field, f64-field, i64-field, array_field}
+use denote.Struct.Field.{Field, f64-field, i64-field}
 use denote.Struct.Struct.{AreAll}
 use Rattle.distribution.specs.contracts.CategoricalDistribution as CD
 use Rattle.distribution.specs.contracts.DimensionInfo as DI
@@ -123,8 +124,8 @@ module _ (d : DeDistribution) (vs : List Val) (p : Is (FlatD.the_field).row ((Fl
   dimension : Fits DI.the_field (dim_of d)
   dimension = struct-fits DI.the_type (dim_of d) (distribution.0 ∷ [], tt) (distribution.1, tt)
 
-dims-each : (ds : List DeDistribution) (us : List Val) → shadow (each (FlatD.the_field).row.Denot (FlatD.the_field).row.own_val (map (FlatD.the_field).into ds) us)
-    → (ws : List Val) × shadow (each (DI.the_field).row.Denot (DI.the_field).row.own_val (map (DI.the_field).into (map dim_of ds)) ws)
+dims-each : (ds : List DeDistribution) (us : List Val) → shadow (each (FlatD.the_row).Denot (FlatD.the_row).own_val ds us)
+    → (ws : List Val) × shadow (each (DI.the_row).Denot (DI.the_row).own_val (map dim_of ds) ws)
 dims-each [] [] p = ([], tt)
 dims-each [] (u ∷ us) p = absurd p
 dims-each (d ∷ ds) [] p = absurd p
@@ -133,11 +134,10 @@ dims-each (d ∷ ds) (u ∷ us) p =
     let r = dims-each ds us p.1 in
     (x.0 ∷ r.0, (x.1, r.1))
 
-dims : (ds : List DeDistribution) (vs : List Val) → Is (array_field FlatD.the_field 16).row ((array_field FlatD.the_field 16).into ds) vs → Fits (array_field DI.the_field 16) (map dim_of ds)
+dims : (ds : List DeDistribution) (vs : List Val) → Is (Array FlatD.the_row tt 16) ds vs → (v : Val) × Is (Array DI.the_row tt 16) (map dim_of ds) (v ∷ [])
 dims ds vs p =
     let r = dims-each ds p.0 p.1.1 in
-    let n : length (map (DI.the_field).into (map dim_of ds)) ≡ 16 = length-map (map dim_of ds) (DI.the_field).into ∙ length-map ds dim_of ∙ sym (length-map ds (FlatD.the_field).into) ∙ p.1.0.1 in
-    (array_val r.0, (r.0, ((refl, n), r.1)))
+    (array_val r.0, (r.0, ((refl, length-map ds dim_of ∙ p.1.0.1), r.1)))
 
 -- ---- the state
 

@@ -1,4 +1,4 @@
-// The sampler for callers in C and Rust: `rt staticlib exports` writes the library. The structs that cross are those of `edge` and `files`.
+// The sampler for callers in C and Rust, whom `exports_c` gives it under the same names. The structs that cross are those of `edge` and `files`.
 // A call or set-up with a number that names no case answers kind 4; a state with one is not sound, and that is refusal 0, or 13 where
 // it is to be saved.
 #![tactic(auto)]
