@@ -1,4 +1,3 @@
-use Prim.Native.Nat.{◌-◌}
 use native.Mathlib.Omega.{arith}
 use Rattle.rng_util.proofs.Parts.{part-first, part-again, part-last}
 use Rattle.candidates.specs.Random.{candidate_at, random_candidates}
