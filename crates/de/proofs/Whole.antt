@@ -11,8 +11,6 @@ use native.Mathlib.Nat.{mul-le-mul}
 use lib.Dec.{leb}
 use lib.Ieee.{Float, nan}
 use lib.ListN.{length, take, get_elem?}
-use Rattle.rng_util.specs.Gen.{Made}
-use Rattle.rng_util.specs.declared.Gen.{Gen}
 use Rattle.distribution.specs.Validate.{judged}
 use Rattle.distribution.specs.declared.Distribution.{Distribution}
 use Rattle.distribution.specs.declared.DimensionInfo.{DimensionInfo}
@@ -43,7 +41,6 @@ use Rattle.kernel.specs.De.{de, code_gen}
 use Rattle.state.specs.Setup.{setup_verdict, is_valid}
 use Rattle.state.specs.View.{laid}
 use Rattle.state.proofs.Sizes.{size-passes}
-use Rattle.state.specs.declared.State.{State}
 use Rattle.assignment.specs.Raw.{Ready, Complete, raw_active, raw_discovery, raw_begin}
 use Rattle.assignment.specs.Laid.{laid_accepted, laid_begun}
 use Rattle.assignment.specs.declared.Accepted.{Accepted}

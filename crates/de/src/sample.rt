@@ -24,6 +24,7 @@ use state::State;
 use state::sound::is_sound;
 
 // Of the refusals 9 and 10, the one that applies: a 17th dimension of the first trial, or a 65th extra.
+#[tactic(auto, unfolding(crate::specs::Refusing::count_refusal))]
 fn count_refusal(
     discovered: bool,
     of_discovery: bool,
@@ -58,6 +59,7 @@ fn count_refusal(
 }
 
 // The first of the refusals 4 to 10.
+#[tactic(auto, unfolding(crate::specs::Refusing::first_refusal))]
 pub fn refusal_of(d: Distribution, nan: bool, counts: Verdict) -> Verdict
     ensures { result ≡ first_refusal d nan counts }
 {

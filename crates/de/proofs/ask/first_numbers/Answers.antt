@@ -1,12 +1,8 @@
-use Prim.Native.Nat.{◌-◌}
 use mathlib.Core.Path.{refl}
 use native.Mathlib.Omega.{arith}
-use Rattle.candidates.proofs.Fill.{fill-first, fill-again, fill-last}
+use Rattle.candidates.proofs.Fill.{fill-again, fill-last}
 use Rattle.de.specs.Ask.{number_at}
 use Rattle.de.proofs.ask.first_numbers.Goals as goal
-
-pub loop-i-init : goal.loop-i-init
-loop-i-init c = (omega arith, fill-first _ _ _ _)
 
 pub loop-i-preserved : goal.loop-i-preserved
 loop-i-preserved c =

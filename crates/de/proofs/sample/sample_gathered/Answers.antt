@@ -1,12 +1,8 @@
 -- `sample_gathered` meets its contract: by parts where the call is plain (PlainCall), else as a whole.
-use Prim.Native.Nat.{◌<◌}
-use mathlib.Core.Path.{◌≡◌, refl, sym, ◌∙◌}
-use mathlib.Core.Bool.{true}
+use mathlib.Core.Path.{refl, sym, ◌∙◌}
 use native.Mathlib.Omega.{arith}
 use borrow.Author.Rules.{rules}
-use lib.ListN.{length}
-use Rattle.state.specs.Sound.{sound_state}
-use Rattle.state.proofs.Measured.{Measured, measured}
+use Rattle.state.proofs.Measured.{measured}
 use Rattle.de.proofs.PlainCall as Plainly
 use Rattle.de.proofs.sample.sample_gathered.Goals as goal
 
