@@ -9,9 +9,6 @@ pub loop-at-init : goal.loop-at-init
 unfolding export_of
 loop-at-init c = (omega arith, omega arith, answer-first _ _)
 
-pub enum_known-next : goal.enum_known-next
-enum_known-next c = c.in-Entry.in-Entry-own.keys1
-
 pub loop-at-smaller : goal.loop-at-smaller
 loop-at-smaller c =
     let w = told c.args.text.now c.loop-at.at (omega arith) _ (sym c.in-Entry.is ∙ c.next_line.ensures) in
@@ -21,9 +18,6 @@ pub loop-at-preserved : goal.loop-at-preserved
 loop-at-preserved c =
     let w = told c.args.text.now c.loop-at.at (omega arith) _ (sym c.in-Entry.is ∙ c.next_line.ensures) in
     (omega arith, omega arith, judge-next c.args.places c.args.text.now c.loop-at.n c.loop-at.at _ c.loop-at.invariant.2 _ _ w)
-
-pub enum_told-1 : goal.enum_told-1
-enum_told-1 c = c.in-Malformed.in-Malformed-own.keys2
 
 pub returns-in-Malformed : goal.returns-in-Malformed
 returns-in-Malformed c =

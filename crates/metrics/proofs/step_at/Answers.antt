@@ -4,12 +4,6 @@ use lib.Ieee.{of_bits, of_fields, odd}
 use Rattle.metrics.specs.Steps.{step_in, step_of}
 use Rattle.metrics.proofs.step_at.Goals as goal
 
-pub enum_known-entry : goal.enum_known-entry
-enum_known-entry c = c.in-Entry.in-Entry-own.keys1
-
-pub enum_told-1 : goal.enum_told-1
-enum_told-1 c = c.in-Malformed.in-Malformed-own.keys2
-
 pub returns-in-Entry : goal.returns-in-Entry
 unfolding step_of
 returns-in-Entry c = ap (step_in _) (sym c.in-Entry.is ∙ c.next_line.ensures)

@@ -4,12 +4,6 @@ use Rattle.numbers.specs.declared.DoubleWord.TheVariants.{Is}
 use Rattle.numbers.specs.Numbers.{double_of, real_if}
 use Rattle.numbers.proofs.read_double.Goals as goal
 
-pub enum_known-w : goal.enum_known-w
-enum_known-w c = c.in-Is.in-Is-own.keys1
-
-pub enum_told-1 : goal.enum_told-1
-enum_told-1 c = c.in-Not.in-Not-own.keys2
-
 pub returns-in-Is : goal.returns-in-Is
 unfolding double_of real_if
 returns-in-Is c = rw (← c.read_pattern.ensures, c.in-Is.is) (ap Is c.real.ensures)

@@ -8,23 +8,11 @@ use Rattle.numbers.proofs.read_int.Goals as goal
 pub returns-then-s-eq0 : goal.returns-then-s-eq0
 returns-then-s-eq0 c = int-none _ c.if-s-eq0.true
 
-pub enum_known-w : goal.enum_known-w
-enum_known-w c = c.in-Is.in-Is-own.keys1
-
-pub enum_told-1 : goal.enum_told-1
-enum_told-1 c = c.in-Not.in-Not-own.keys2
-
 pub returns-in-Is : goal.returns-in-Is
 returns-in-Is c = int-if-is negated _ _ _ c.in-Is.is c.minus.ensures ∙ int-minus _ _ (search rules) c.if-s-eq45.true c.read_whole.ensures
 
 pub returns-in-Not : goal.returns-in-Not
 returns-in-Not c = int-if-not negated _ c.in-Not.is ∙ int-minus _ _ (search rules) c.if-s-eq45.true c.read_whole.ensures
-
-pub enum_known-w-in-Is-read_whole-2 : goal.enum_known-w-in-Is-read_whole-2
-enum_known-w-in-Is-read_whole-2 c = c.in-Is-read_whole.in-Is-read_whole-own.keys1
-
-pub enum_told-in-Not-read_whole : goal.enum_told-in-Not-read_whole
-enum_told-in-Not-read_whole c = c.in-Not-read_whole.in-Not-read_whole-own.keys2
 
 pub returns-in-Is-read_whole : goal.returns-in-Is-read_whole
 returns-in-Is-read_whole c = int-if-is plain _ _ _ c.in-Is-read_whole.is c.unsigned.ensures ∙ int-plain _ _ (search rules) c.if-s-eq45.false c.read_whole-2.ensures

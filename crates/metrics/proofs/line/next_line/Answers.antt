@@ -11,12 +11,6 @@ pub returns-then-end-text : goal.returns-then-end-text
 returns-then-end-text c =
     next_last c.args.text.now c.args.at c.piece_end-end.result (omega arith) c.piece_end-end.ensures.found c.if-end-text.true
 
-pub enum_known-e : goal.enum_known-e
-enum_known-e c = c.in-Entry.in-Entry-own.keys1
-
-pub enum_told-1 : goal.enum_told-1
-enum_told-1 c = c.in-Malformed.in-Malformed-own.keys2
-
 pub returns-in-Entry : goal.returns-in-Entry
 returns-in-Entry c =
     next-entry c.args.text.now c.args.at c.piece_end-end.result (omega arith) c.piece_end-end.ensures.found c.read_line.result _ c.if-end-text.false c.read_line.ensures c.in-Entry.is

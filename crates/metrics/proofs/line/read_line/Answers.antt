@@ -7,18 +7,6 @@ use Rattle.metrics.proofs.line.read_line.Goals as goal
 pub returns-then-p-line : goal.returns-then-p-line
 returns-then-p-line c = no-comma c.args.line.now c.piece_end-p.result c.piece_end-p.ensures.found c.if-p-line.true
 
-pub enum_known-number : goal.enum_known-number
-enum_known-number c = c.in-Is.in-Is-own.keys1
-
-pub enum_known-value : goal.enum_known-value
-enum_known-value c = c.in-Is-read_value.in-Is-read_value-own.keys1
-
-pub enum_told-1 : goal.enum_told-1
-enum_told-1 c = c.in-Not-read_value.in-Not-read_value-own.keys2
-
-pub enum_told-in-Not : goal.enum_told-in-Not
-enum_told-in-Not c = c.in-Not.in-Not-own.keys2
-
 pub returns-in-Is-read_value : goal.returns-in-Is-read_value
 returns-in-Is-read_value c =
     with-comma c.args.line.now c.piece_end-p.result c.piece_end-p.ensures.found _ _ c.if-p-line.false (sym c.in-Is.is ∙ c.read_number.ensures) (sym c.in-Is-read_value.is ∙ c.read_value.ensures)

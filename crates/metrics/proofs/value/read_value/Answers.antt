@@ -8,12 +8,6 @@ use Rattle.metrics.proofs.value.read_value.Goals as goal
 pub returns-then-s-eq0 : goal.returns-then-s-eq0
 returns-then-s-eq0 c = value_none c.args.s.now c.if-s-eq0.true
 
-pub enum_known-x : goal.enum_known-x
-enum_known-x c = c.in-Is.in-Is-own.keys1
-
-pub enum_told-1 : goal.enum_told-1
-enum_told-1 c = c.in-Not.in-Not-own.keys2
-
 pub returns-in-Is : goal.returns-in-Is
 returns-in-Is c =
     sym (ap neg_word c.in-Is.is) ∙ value-minus c.args.s.now c.unsigned.result (omega arith) c.if-s-eq45.true c.unsigned.ensures

@@ -3,12 +3,6 @@ use mathlib.Core.Path.{refl}
 use Rattle.script.specs.Commands.{choice_line}
 use Rattle.script.proofs.command.choice.Goals as goal
 
-pub enum_known-number : goal.enum_known-number
-enum_known-number c = c.in-Is.in-Is-own.keys1
-
-pub enum_told-1 : goal.enum_told-1
-enum_told-1 c = c.in_default.in_default-own.keys2
-
 pub returns-in_default : goal.returns-in_default
 unfolding choice_line
 returns-in_default c =
@@ -20,12 +14,6 @@ returns-in_default c =
       ← c.whole_at.ensures,
       c.in_default.is,
     )
-
-pub enum_known-n_choices : goal.enum_known-n_choices
-enum_known-n_choices c = c.in-Is-whole_at.in-Is-whole_at-own.keys1
-
-pub enum_told-in_default-whole_at : goal.enum_told-in_default-whole_at
-enum_told-in_default-whole_at c = c.in_default-whole_at.in_default-whole_at-own.keys2
 
 pub returns-in_default-whole_at : goal.returns-in_default-whole_at
 unfolding choice_line

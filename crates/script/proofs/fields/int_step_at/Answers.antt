@@ -9,12 +9,6 @@ pub returns-then-is : goal.returns-then-is
 unfolding int_step_of
 returns-then-is c = rw (← c.word-s.ensures, ← c.is.ensures, c.if-is.true)
 
-pub enum_known-n : goal.enum_known-n
-enum_known-n c = c.in-Is.in-Is-own.keys1
-
-pub enum_told-1 : goal.enum_told-1
-enum_told-1 c = c.in-Not.in-Not-own.keys2
-
 pub returns-in-Is : goal.returns-in-Is
 unfolding int_step_of
 returns-in-Is c =
