@@ -40,11 +40,7 @@ pub fn de_new(state: &mut DeState, setup: DeSetup) -> DeAnswer
 }
 
 // A sample call. The lent state is written only where there is a setting.
-pub fn de_sample(
-    state: &mut DeState,
-    call: DeCall,
-    history: &[CompletedTrial],
-) -> DeAnswer
+pub fn de_sample(state: &mut DeState, call: DeCall, history: &[CompletedTrial]) -> DeAnswer
     ensures { (result ≡ sample_answer state.old call history.now) × (state.new ≡ sample_state state.old call history.now) }
 {
     let q = open_call(*state, call);

@@ -14,6 +14,6 @@ returns c =
     let answer = ap (λ (z : Settled). z.answer) c.settle_setup-o.ensures in
     let stores = ap (λ (z : Settled). z.stores) c.settle_setup-o.ensures in
     elim c.if-o.branch [
-      then-o w ↦ (answer, stored (fresh_flat c.args.setup) f w.if-o.true stores (w.state-is ∙ w.fresh.ensures))
+      | then-o w ↦ (answer, stored (fresh_flat c.args.setup) f w.if-o.true stores (w.state-is ∙ w.fresh.ensures))
       | else-o w ↦ (answer, kept (fresh_flat c.args.setup) f w.if-o.false stores w.state-is)
     ]

@@ -18,6 +18,6 @@ returns c =
     let stores = ap (λ (z : SettledFile). z.stores) p in
     let read = flat_of (read_of c.args.file.now).state in
     elim c.if-o.branch [
-      then-o w ↦ (answer, stored read f w.if-o.true stores (w.state-is ∙ w.flatten.ensures ∙ ap (λ (z : Restored). flat_of z.state) c.read_file-r.ensures))
+      | then-o w ↦ (answer, stored read f w.if-o.true stores (w.state-is ∙ w.flatten.ensures ∙ ap (λ (z : Restored). flat_of z.state) c.read_file-r.ensures))
       | else-o w ↦ (answer, kept read f w.if-o.false stores w.state-is)
     ]

@@ -44,6 +44,6 @@ returns c =
     let stores = ap (λ (z : Settled). z.stores) p in
     let made = flat_of (sampled_from f call ys).state in
     elim c.if-o.branch [
-      then-o w ↦ (answer, stored made f w.if-o.true stores (w.state-is ∙ w.flatten.ensures ∙ ap (λ (z : Result de State). flat_of z.state) m))
+      | then-o w ↦ (answer, stored made f w.if-o.true stores (w.state-is ∙ w.flatten.ensures ∙ ap (λ (z : Result de State). flat_of z.state) m))
       | else-o w ↦ (answer, kept made f w.if-o.false stores w.state-is)
     ]
