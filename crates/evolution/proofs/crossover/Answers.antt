@@ -1,4 +1,3 @@
-use Prim.Native.Nat.{◌-◌}
 use native.Mathlib.Omega.{arith}
 use Rattle.rng_util.proofs.Parts.{part-first, part-again, part-last}
 use Rattle.common.specs.Bounds.{zero_f}

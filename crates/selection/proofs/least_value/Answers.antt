@@ -1,6 +1,5 @@
 -- `least_value` meets its contract: the best slot is a slot, and its value is read (`least-read`). Assumes nothing.
 use native.Mathlib.Omega.{arith}
-use Prim.Native.Nat.{◌<◌}
 use borrow.Author.Rules.{rules}
 use lib.Ieee.{of_bits, of_fields, nan_bits}
 use Rattle.selection.proofs.Best.{best-in, least-read, least-none}

@@ -1,4 +1,3 @@
-use Prim.Native.Nat.{◌-◌}
 use native.Mathlib.Omega.{arith}
 use Rattle.common.specs.Bounds.{zero_f}
 use Rattle.candidates.proofs.Fill.{fill-first, fill-again, fill-last}
