@@ -1,5 +1,5 @@
 -- Worked examples of document 02's W3, each by computing.
-use Prim.Native.Nat.{ℕ, zero, ◌-◌, ◌^◌}
+use Prim.Native.Nat.{ℕ, ◌-◌, ◌^◌}
 use Prim.Native.Char.{code}
 use Prim.Native.String.{String, [] as []ˢ, ◌∷◌ as ◌∷ˢ◌}
 use mathlib.Core.Path.{◌≡◌, refl}

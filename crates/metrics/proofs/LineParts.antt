@@ -1,6 +1,6 @@
 -- A line and its parts: a line of the grammar is read as what it means, and a line that is read is one of the grammar.
 -- Idea: a separator stands nowhere among digits, so the line is cut where its parts meet (Joined).
-use Prim.Native.Nat.{ℕ, ◌+◌, ◌^◌, ◌≤◌, ◌<◌}
+use Prim.Native.Nat.{ℕ, ◌^◌, ◌≤◌, ◌<◌}
 use Prim.Native.Char.{code}
 use mathlib.Core.Path.{◌≡◌, refl, sym, ap, ◌∙◌}
 use mathlib.Core.Bool.{Bool, true, false, ◌&&◌, cond}

@@ -8,7 +8,7 @@ use native.Mathlib.Omega.{arith}
 use lib.IntN.{ℤ, pos, negsuc}
 use lib.Dec.{T, leb, ltb, eqb, leb→le, ltb→lt}
 use lib.Pow.{pow-add, pow_pos, pow_mono, pow-lt, shl_lt}
-use lib.Ieee.{Float, fin, Format, prec, emax, low, up, down, size, units, fits, to_bits, of_bits, hid, ones, top, inf, nan}
+use lib.Ieee.{Float, fin, Format, prec, emax, low, up, down, size, fits, to_bits, of_bits, hid, ones, top, inf, nan}
 use lib.Ieee.Bits.{of_bits-to_bits}
 use lib.Ieee.Digits.{size_reaches, back}
 use lib.Ieee.Exact.{HasValue}

@@ -1,6 +1,5 @@
 use native.Mathlib.Omega.{arith}
 use mathlib.Core.Path.{sym, ◌∙◌}
-use Prim.Native.Nat.{◌-◌}
 use Rattle.metrics.specs.Export.{export_of}
 use Rattle.metrics.proofs.Lines.{told, answer-first, judge-next, judge-malformed, judge-count, judge-short}
 use Rattle.metrics.proofs.judge.Goals as goal

@@ -1,7 +1,7 @@
 use borrow.Author.Rules.{rules}
 use native.Mathlib.Omega.{arith}
 use mathlib.Core.Path.{refl, ap, ◌∙◌}
-use Prim.Native.Nat.{ℕ, ◌-◌, ◌<◌}
+use Prim.Native.Nat.{ℕ, ◌<◌}
 use lib.ListN.{length, length-set}
 use Rattle.metrics.specs.Export.{export_of, answer_of, left_in, number_of, value_of}
 use Rattle.metrics.specs.Steps.{chosen}
@@ -67,9 +67,9 @@ returns c =
     record {
       answer = c.judge-answer.ensures ∙ ap (λ (p : ℕ). answer_of p x) m;
       numbers =
-        write_done number_of ts c.loop-i.i c.loop-i.numbers _ (omega arith) c.loop-i.invariant.4
-        ∙ left_is number_of c.least-places.result x c.args.numbers.now (omega arith) ∙ ap (λ (p : ℕ). left_in number_of p x c.args.numbers.now) m;
+          write_done number_of ts c.loop-i.i c.loop-i.numbers _ (omega arith) c.loop-i.invariant.4
+          ∙ left_is number_of c.least-places.result x c.args.numbers.now (omega arith) ∙ ap (λ (p : ℕ). left_in number_of p x c.args.numbers.now) m;
       values =
-        write_done value_of ts c.loop-i.i c.loop-i.values _ (omega arith) c.loop-i.invariant.5
-        ∙ left_is value_of c.least-places.result x c.args.values.now (omega arith) ∙ ap (λ (p : ℕ). left_in value_of p x c.args.values.now) m;
+          write_done value_of ts c.loop-i.i c.loop-i.values _ (omega arith) c.loop-i.invariant.5
+          ∙ left_is value_of c.least-places.result x c.args.values.now (omega arith) ∙ ap (λ (p : ℕ). left_in value_of p x c.args.values.now) m;
     }

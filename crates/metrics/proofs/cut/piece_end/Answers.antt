@@ -1,5 +1,4 @@
 use Rattle.metrics.proofs.Cuts.{end-sep, end-byte, end-end}
-use Prim.Native.Nat.{◌-◌}
 use native.Mathlib.Omega.{arith}
 use Rattle.metrics.proofs.cut.piece_end.Goals as goal
 

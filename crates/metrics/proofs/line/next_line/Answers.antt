@@ -1,5 +1,4 @@
 -- The line feed ends the first piece (Lines).
-use borrow.Author.Rules.{rules}
 use native.Mathlib.Omega.{arith}
 use Rattle.metrics.proofs.Lines.{next-none, next_last, next-entry, next-malformed}
 use Rattle.metrics.proofs.line.next_line.Goals as goal

@@ -1,5 +1,4 @@
 -- The comma ends the first piece (Words).
-use borrow.Author.Rules.{rules}
 use mathlib.Core.Path.{sym, ◌∙◌}
 use Rattle.metrics.proofs.Words.{no-comma, with-comma, bad-number}
 use Rattle.metrics.proofs.line.read_line.Goals as goal

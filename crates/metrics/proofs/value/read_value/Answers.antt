@@ -1,5 +1,4 @@
 -- The minus is the definition's test; what it negates is rounded the same way (Words).
-use borrow.Author.Rules.{rules}
 use native.Mathlib.Omega.{arith}
 use mathlib.Core.Path.{sym, ap, ◌∙◌}
 use Rattle.metrics.proofs.Words.{neg_word, value_none, value-minus, value-plain}

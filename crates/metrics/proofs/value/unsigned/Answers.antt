@@ -1,5 +1,4 @@
 -- The point ends the first piece (Words).
-use borrow.Author.Rules.{rules}
 use native.Mathlib.Omega.{arith}
 use mathlib.Core.Bool.{false}
 use Rattle.metrics.proofs.Words.{no-point, none-behind, both-sides}

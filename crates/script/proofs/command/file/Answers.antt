@@ -1,6 +1,5 @@
 -- Each word's reading decides one step of the definition.
 use Rattle.script.specs.Commands.{file_line}
-use borrow.Author.Rules.{rules}
 use Rattle.script.proofs.command.file.Goals as goal
 
 pub returns-in_default : goal.returns-in_default

@@ -1,5 +1,4 @@
 -- Each word's reading decides one step of the definition.
-use mathlib.Core.Path.{refl}
 use Rattle.script.specs.Commands.{new_line}
 use Rattle.script.proofs.command.new.Goals as goal
 

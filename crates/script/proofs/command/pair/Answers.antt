@@ -1,6 +1,5 @@
 -- The tests are the definition's, in its order.
 use Rattle.script.specs.Commands.{pair_line}
-use borrow.Author.Rules.{rules}
 use Rattle.script.proofs.command.pair.Goals as goal
 
 pub returns-then-key_is : goal.returns-then-key_is

@@ -1,5 +1,4 @@
 -- The tests are the definition's, in its order.
-use mathlib.Core.Path.{refl}
 use Rattle.script.specs.Commands.{range_line}
 use Rattle.script.proofs.command.range.Goals as goal
 

@@ -1,4 +1,5 @@
 -- Each word's reading decides one step of the definition; the machine reads a signed number back from its bits.
+use borrow.Author.Rules.{rules}
 use mir.Syntax.{w64}
 use mir.Facts.{to_z-of_z}
 use Rattle.script.specs.Commands.{sample_int}
@@ -69,6 +70,6 @@ returns c =
       c.in-Is-scale_at.is,
       ← c.int_step_at.ensures,
       c.in-Is-int_step_at.is,
-      to_z-of_z {w = w64} {z = c.in-Is-int_at.low} (record { sfits = c.in-Is-int_at.known_told-in-Is-int_at-1-own.given.0.1 }),
-      to_z-of_z {w = w64} {z = c.in-Is-int_at-2.high} (record { sfits = c.in-Is-int_at-2.known_told-in-Is-int_at-2-1-own.given.0.1 }),
+      to_z-of_z {w = w64} {z = c.in-Is-int_at.low} (search rules),
+      to_z-of_z {w = w64} {z = c.in-Is-int_at-2.high} (search rules),
     )

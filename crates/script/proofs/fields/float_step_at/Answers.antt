@@ -1,5 +1,4 @@
 -- The test and the arm are the definition's.
-use mathlib.Core.Path.{refl}
 use Rattle.script.specs.Fields.{float_step_of}
 use Rattle.script.proofs.fields.float_step_at.Goals as goal
 

@@ -1,5 +1,5 @@
 -- The test and the arm are the definition's; the machine reads a signed number back from its bits.
-use mathlib.Core.Path.{refl}
+use borrow.Author.Rules.{rules}
 use mir.Syntax.{w64}
 use mir.Facts.{to_z-of_z}
 use Rattle.script.specs.Fields.{int_step_of}
@@ -18,7 +18,7 @@ returns-in-Is c =
       c.if-is.false,
       ← c.read_int.ensures,
       c.in-Is.is,
-      to_z-of_z {w = w64} (record { sfits = c.in-Is.known_told-1-own.given.0.1 }),
+      to_z-of_z {w = w64} {z = c.in-Is.n} (search rules),
     )
 
 pub returns-in-Not : goal.returns-in-Not

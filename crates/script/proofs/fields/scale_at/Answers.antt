@@ -1,5 +1,4 @@
 -- The tests are the definition's, in its order.
-use mathlib.Core.Path.{refl}
 use Rattle.script.specs.Fields.{scale_of}
 use Rattle.script.proofs.fields.scale_at.Goals as goal
 

@@ -1,5 +1,4 @@
 -- The test and the arm are the definition's.
-use mathlib.Core.Path.{refl}
 use Rattle.script.specs.Fields.{size_of}
 use Rattle.script.proofs.fields.size_at.Goals as goal
 

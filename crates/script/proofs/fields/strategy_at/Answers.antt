@@ -1,5 +1,4 @@
 -- The tests are the definition's, in its order.
-use mathlib.Core.Path.{refl}
 use Rattle.script.specs.Fields.{strategy_of}
 use Rattle.script.proofs.fields.strategy_at.Goals as goal
 

@@ -3,7 +3,7 @@ use Rattle.script.specs.Words.{words_of, word_at}
 use lib.ListN.{drop, get_or}
 use mathlib.Core.List.{List, []}
 use mathlib.Core.Path.{◌≡◌, refl, sym, ◌∙◌, ap}
-use Prim.Native.Nat.{ℕ, ◌-◌}
+use Prim.Native.Nat.{ℕ}
 use native.Mathlib.Omega.{arith}
 use Rattle.script.proofs.words.word.Goals as goal
 

@@ -1,5 +1,4 @@
 use Rattle.script.proofs.Cut.{end-space, end-byte, end-end}
-use Prim.Native.Nat.{◌-◌}
 use native.Mathlib.Omega.{arith}
 use Rattle.script.proofs.words.word_end.Goals as goal
 
