@@ -3,17 +3,13 @@ use Prim.Native.Nat.{◌≤◌}
 use native.Mathlib.Omega.{arith}
 use mathlib.Core.Path.{◌≡◌, sym, ◌∙◌}
 use mathlib.Core.Bool.{Bool, true, ◌&&◌}
-use borrow.Author.Rules.{rules}
 use borrow.Author.Tests.{le-leb, lt-leb}
 use lib.Dec.{leb}
-use Rattle.kernel.specs.Fits.{fits}
-use Rattle.state.specs.Blank.{is_blank_dim, is_blank_candidate, is_blank_member}
-use Rattle.state.specs.View.{candidate_count, parent_count}
-use Rattle.state.specs.Places.{places_fit, passes, member_fits, limits_of, counts_sound, counts_of}
+use Rattle.state.specs.Places.{limits_of, counts_sound, counts_of}
 use Rattle.state.specs.declared.State.{State}
 use Rattle.state.specs.declared.places.Limits.{Limits}
 use Rattle.state.proofs.Flags.{true-and, and-true}
-use Rattle.state.proofs.Measured.{Measured, measured}
+use Rattle.state.proofs.Measured.{measured}
 use Rattle.state.proofs.Parts.{dims_of}
 use Rattle.state.proofs.Told.{few_choices, continuous-few, counts-told, candidates-told, parents-told, best-told}
 use Rattle.state.proofs.Whole.{Few, count_test, few-of, few-parents, refuted, settled}
