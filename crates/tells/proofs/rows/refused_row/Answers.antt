@@ -13,4 +13,4 @@ returns-in-MalformedLine c =
 
 pub returns-in-ShortHistory : goal.returns-in-ShortHistory
 returns-in-ShortHistory c =
-    record { few = prefix_len_of_le _ _ (omega arith); text = refused-15 _ _ c.in-ShortHistory.is c.put.ensures.text }
+    record { few = prefix_len_of_le _ _ (omega arith); text = refused-15 _ _ c.in-ShortHistory.is c.put-in-ShortHistory.ensures.text }
