@@ -10,27 +10,11 @@ use Rattle.kinds.specs.Rows.{candidate_in}
 use Rattle.opened.proofs.Opening.{row_is, row_on, row_room, row-length}
 use Rattle.opened.proofs.open_candidates.Goals as goal
 
-pub slice_bounds-candidate_in-end : goal.slice_bounds-candidate_in-end
-slice_bounds-candidate_in-end c = omega (arith, row_room c.args.words.now c.args.n_dims c.loop-i.i c.loop-i.at c.loop-i.invariant.1.0 c.args.n 224 16 (omega arith) c.requires.0 (omega (arith, c.requires.1)) (omega arith))
-
 pub loop-i-init : goal.loop-i-init
 loop-i-init c =
     let args = c.args in
     let blank-candidate = c.blank_candidate-blank in
     (omega arith, (omega arith, subst (λ (b : Candidate). Fill 224 blank_candidate (λ j. candidate_in (take args.n_dims args.dims) (row args.words.now args.n_dims j)) args.n (replicate 224 b) 0) (sym blank-candidate.ensures) (fill-first 224 blank_candidate (λ j. candidate_in (take args.n_dims args.dims) (row args.words.now args.n_dims j)) args.n)))
-
-pub overflow_add-end : goal.overflow_add-end
-overflow_add-end c = omega (arith, row_room c.args.words.now c.args.n_dims c.loop-i.i c.loop-i.at c.loop-i.invariant.1.0 c.args.n 224 16 (omega arith) c.requires.0 (omega (arith, c.requires.1)) (omega arith))
-
-pub offset_bounds-words-at : goal.offset_bounds-words-at
-offset_bounds-words-at c = omega (arith, row_room c.args.words.now c.args.n_dims c.loop-i.i c.loop-i.at c.loop-i.invariant.1.0 c.args.n 224 16 (omega arith) c.requires.0 (omega (arith, c.requires.1)) (omega arith))
-
-pub candidate_in-c-requires : goal.candidate_in-c-requires
-candidate_in-c-requires c =
-    let args = c.args in
-    let pre = c.requires in
-    let loop = c.loop-i in
-    (pre.1, omega (arith, row-length args.words.now args.n_dims loop.i loop.at loop.invariant.1.0 (omega (arith, row_room args.words.now args.n_dims loop.i loop.at loop.invariant.1.0 args.n 224 16 (omega arith) pre.0 (omega (arith, pre.1)) (omega arith), pre.2))))
 
 pub loop-i-preserved : goal.loop-i-preserved
 loop-i-preserved c =

@@ -7,25 +7,6 @@ use Rattle.kinds.specs.Rows.{dim_in}
 use Rattle.opened.proofs.Opening.{row_is, row_on, row_room, row-length}
 use Rattle.opened.proofs.open_dims.Goals as goal
 
-pub slice_bounds-dim_in-end : goal.slice_bounds-dim_in-end
-slice_bounds-dim_in-end c = omega (arith, row_room c.args.words.now 5 c.loop-i.i c.loop-i.at c.loop-i.invariant.1.0 c.args.n 16 5 (omega arith) c.requires.0 (omega arith) (omega arith))
-
-pub loop-i-init : goal.loop-i-init
-loop-i-init c = (omega arith, (omega arith, fill-first 16 blank_dim _ _))
-
-pub overflow_add-end : goal.overflow_add-end
-overflow_add-end c = omega (arith, row_room c.args.words.now 5 c.loop-i.i c.loop-i.at c.loop-i.invariant.1.0 c.args.n 16 5 (omega arith) c.requires.0 (omega arith) (omega arith))
-
-pub offset_bounds-words-at : goal.offset_bounds-words-at
-offset_bounds-words-at c = omega (arith, row_room c.args.words.now 5 c.loop-i.i c.loop-i.at c.loop-i.invariant.1.0 c.args.n 16 5 (omega arith) c.requires.0 (omega arith) (omega arith))
-
-pub dim_in-d-requires : goal.dim_in-d-requires
-dim_in-d-requires c =
-    let args = c.args in
-    let pre = c.requires in
-    let loop = c.loop-i in
-    omega (arith, row-length args.words.now 5 loop.i loop.at loop.invariant.1.0 (omega (arith, row_room args.words.now 5 loop.i loop.at loop.invariant.1.0 args.n 16 5 (omega arith) pre.0 (omega arith) (omega arith), pre.1)))
-
 pub loop-i-preserved : goal.loop-i-preserved
 loop-i-preserved c =
     let args = c.args in

@@ -7,25 +7,6 @@ use Rattle.kinds.specs.Rows.{trial_in}
 use Rattle.opened.proofs.Opening.{row_is, row_on, row_room, row-length}
 use Rattle.opened.proofs.open_trials.Goals as goal
 
-pub slice_bounds-trial_in-end : goal.slice_bounds-trial_in-end
-slice_bounds-trial_in-end c = omega (arith, row_room c.args.words.now 2 c.loop-i.i c.loop-i.at c.loop-i.invariant.1.0 c.args.n 224 2 (omega arith) c.requires.0 (omega arith) (omega arith))
-
-pub loop-i-init : goal.loop-i-init
-loop-i-init c = (omega arith, (omega arith, fill-first 224 blank_trial _ _))
-
-pub overflow_add-end : goal.overflow_add-end
-overflow_add-end c = omega (arith, row_room c.args.words.now 2 c.loop-i.i c.loop-i.at c.loop-i.invariant.1.0 c.args.n 224 2 (omega arith) c.requires.0 (omega arith) (omega arith))
-
-pub offset_bounds-words-at : goal.offset_bounds-words-at
-offset_bounds-words-at c = omega (arith, row_room c.args.words.now 2 c.loop-i.i c.loop-i.at c.loop-i.invariant.1.0 c.args.n 224 2 (omega arith) c.requires.0 (omega arith) (omega arith))
-
-pub trial_in-t-requires : goal.trial_in-t-requires
-trial_in-t-requires c =
-    let args = c.args in
-    let pre = c.requires in
-    let loop = c.loop-i in
-    omega (arith, row-length args.words.now 2 loop.i loop.at loop.invariant.1.0 (omega (arith, row_room args.words.now 2 loop.i loop.at loop.invariant.1.0 args.n 224 2 (omega arith) pre.0 (omega arith) (omega arith), pre.1)))
-
 pub loop-i-preserved : goal.loop-i-preserved
 loop-i-preserved c =
     let args = c.args in

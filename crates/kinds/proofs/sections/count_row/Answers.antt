@@ -4,9 +4,6 @@ use mathlib.Core.List.{[], ◌∷◌}
 use Rattle.kinds.specs.Kinds.{count_words}
 use Rattle.kinds.proofs.sections.count_row.Goals as goal
 
-pub overflow_cast-result-2 : goal.overflow_cast-result-2
-overflow_cast-result-2 c = omega (arith, c.struct_known-2-1.given)
-
 pub returns : goal.returns
 unfolding count_words
 returns c =

@@ -4,8 +4,5 @@ use mathlib.Core.Path.{refl, ◌∙◌}
 use Rattle.kinds.proofs.Sectioned.{alone}
 use Rattle.kinds.proofs.sections.counts_section.Goals as goal
 
-pub put_row-requires : goal.put_row-requires
-put_row-requires c = (omega arith, refl)
-
 pub returns : goal.returns
 returns c = c.put_row.ensures ∙ alone _ _ c.count_row-row.ensures

@@ -7,14 +7,8 @@ use lib.Seq.{paste, paste-zero}
 use Rattle.records.proofs.Pasted.{paste-next}
 use Rattle.kinds.proofs.sections.put_row.Goals as goal
 
-pub loop-j-init : goal.loop-j-init
-loop-j-init c = (omega arith, paste-zero c.args.words.now c.args.at c.args.row.now, c.requires.1)
-
 pub loop-j-preserved : goal.loop-j-preserved
 loop-j-preserved c =
     let args = c.args in
     let loop = c.loop-j in
     (omega arith, ap (λ (l : List ℕ). set l (args.at + loop.j) (get_or args.row.now loop.j 0)) loop.invariant.1 ∙ paste-next args.words.now args.row.now args.at loop.j (omega arith) (omega arith), loop.invariant.2)
-
-pub returns : goal.returns
-returns c = c.loop-j.invariant.1 ∙ (let e : c.loop-j.j ≡ length c.args.row.now = omega arith in ap (λ (n : ℕ). paste c.args.words.now c.args.at c.args.row.now n) e)

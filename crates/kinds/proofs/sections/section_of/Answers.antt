@@ -24,14 +24,6 @@ returns-then-kind-eq4 c =
     let trials-section = c.trials_section-words in
     kind-4 args.s (measured args.s _ good.0) pre.0 args.kind _ if4.true trials-section.ensures
 
-pub overflow_mul-result-then-kind-eq5 : goal.overflow_mul-result-then-kind-eq5
-overflow_mul-result-then-kind-eq5 c =
-    let args = c.args in
-    let good = c.well_formed in
-    let pre = c.requires in
-    let parent-count = c.parent_count-n in
-    omega (arith, (few_words args.s (measured args.s _ good.0) pre.0 _ _ parent-count.ensures refl).0)
-
 pub returns-then-kind-eq5 : goal.returns-then-kind-eq5
 returns-then-kind-eq5 c =
     let args = c.args in
@@ -41,14 +33,6 @@ returns-then-kind-eq5 c =
     let parent-count = c.parent_count-n in
     let parents-section = c.parents_section-words in
     kind-5 args.s (measured args.s _ good.0) pre.0 args.kind _ _ if5.true parent-count.ensures parents-section.ensures
-
-pub overflow_mul-result-2 : goal.overflow_mul-result-2
-overflow_mul-result-2 c =
-    let args = c.args in
-    let good = c.well_formed in
-    let pre = c.requires in
-    let candidate-count = c.candidate_count-n in
-    omega (arith, (few_words args.s (measured args.s _ good.0) pre.0 _ _ refl candidate-count.ensures).1)
 
 pub returns : goal.returns
 returns c =

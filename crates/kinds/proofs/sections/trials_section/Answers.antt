@@ -10,18 +10,9 @@ use Rattle.kinds.proofs.sections.trials_section.Goals as goal
 pub loop-i-init : goal.loop-i-init
 loop-i-init c = (omega arith, (search rules, first trial_words 2 _))
 
-pub put_row-requires : goal.put_row-requires
-put_row-requires c = (omega (arith, c.loop-i.invariant.1.1.at_is, ap length c.trial_row-row.ensures ∙ trial-width _), c.loop-i.invariant.1.1.long)
-
-pub overflow_add-at : goal.overflow_add-at
-overflow_add-at c = omega (arith, c.loop-i.invariant.1.1.at_is)
-
 pub loop-i-preserved : goal.loop-i-preserved
 loop-i-preserved c =
     let loop = c.loop-i in
     let trial-row = c.trial_row-row in
     let put-row = c.put_row in
     (omega arith, (loop.invariant.1.0, next trial_words 2 _ trial-width loop.words _ _ loop.at loop.i _ (omega (arith, loop.invariant.1.0)) (omega (arith, loop.invariant.1.1.at_is, ap length trial-row.ensures ∙ trial-width _)) trial-row.ensures put-row.ensures loop.invariant.1.1))
-
-pub returns : goal.returns
-returns c = last trial_words 2 _ _ c.loop-i.at c.loop-i.i c.args.n (omega arith) c.loop-i.invariant.1.1

@@ -5,18 +5,6 @@ use borrow.Author.Rules.{rules}
 use Rattle.kinds.proofs.Entries.{first, next-entry, next-choice, last}
 use Rattle.kinds.proofs.vectors.vector_row.Goals as goal
 
-pub loop-i-init : goal.loop-i-init
-loop-i-init c = (omega arith, (search rules, first _ _ _ _))
-
-pub offset_bounds-x-ci : goal.offset_bounds-x-ci
-offset_bounds-x-ci c = omega (arith, c.loop-i.invariant.1.1.behind)
-
-pub bounds-x-ci : goal.bounds-x-ci
-bounds-x-ci c = omega (arith, c.loop-i.invariant.1.1.behind)
-
-pub overflow_add-ci : goal.overflow_add-ci
-overflow_add-ci c = omega (arith, c.loop-i.invariant.1.1.behind)
-
 pub loop-i-preserved-then-is_continuous : goal.loop-i-preserved-then-is_continuous
 loop-i-preserved-then-is_continuous c =
     let loop = c.loop-i in

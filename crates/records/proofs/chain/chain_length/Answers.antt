@@ -1,11 +1,7 @@
-use Prim.Native.Nat.{◌-◌}
 use native.Mathlib.Omega.{arith}
 use mathlib.Core.Path.{refl, sym, ◌∙◌}
-use Rattle.records.proofs.Following.{starts, past, ends, goes, spent}
+use Rattle.records.proofs.Following.{past, ends, goes, spent}
 use Rattle.records.proofs.chain.chain_length.Goals as goal
-
-pub loop-met-init : goal.loop-met-init
-loop-met-init c = (omega arith, (refl, starts _))
 
 pub returns-then-count-k : goal.returns-then-count-k
 returns-then-count-k c = sym (c.loop-met.invariant.1.1 ∙ past _ _ _ _ (omega arith))

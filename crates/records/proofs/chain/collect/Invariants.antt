@@ -1,5 +1,4 @@
 -- `collect` meets its contract: what is laid, and the walk that is left (Following).
-use Prim.Native.Nat.{◌-◌}
 use mathlib.Core.Path.{◌≡◌}
 use Rattle.records.specs.Chain.{walk, Walks}
 use Rattle.records.specs.Tables.{laid_on, table_of}

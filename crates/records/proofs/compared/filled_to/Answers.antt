@@ -1,13 +1,8 @@
-use Prim.Native.Nat.{◌-◌}
 use native.Mathlib.Omega.{arith}
-use mathlib.Core.Bool.{true, false}
-use mathlib.Core.Path.{refl, sym, ◌∙◌}
+use mathlib.Core.Path.{sym, ◌∙◌}
 use borrow.Author.Tests.{not-true, not-false}
 use Rattle.records.proofs.Comparing.{flags-same, flags-differ, flags-end}
 use Rattle.records.proofs.compared.filled_to.Goals as goal
-
-pub loop-i-init : goal.loop-i-init
-loop-i-init c = (omega arith, refl)
 
 pub returns-then-filled-i : goal.returns-then-filled-i
 returns-then-filled-i c = sym (c.loop-i.invariant.1 ∙ flags-differ c.args.filled.now c.args.m c.loop-i.i c.requires.0 c.requires.1 (omega arith) (not-true _ c.if-filled-i.true))

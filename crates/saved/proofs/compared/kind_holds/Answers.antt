@@ -3,18 +3,6 @@ use Rattle.state.proofs.Measured.{measured}
 use Rattle.kinds.proofs.Few.{section-few, section-records, compared}
 use Rattle.saved.proofs.compared.kind_holds.Goals as goal
 
-pub records_for-m-requires : goal.records_for-m-requires
-records_for-m-requires c = section-few c.args.state (measured c.args.state _ c.well_formed.0) c.requires.0 c.args.kind _ c.section_of-s.ensures
-
-pub filled_to-requires : goal.filled_to-requires
-filled_to-requires c =
-    let args = c.args in
-    let good = c.well_formed in
-    let pre = c.requires in
-    let section-of = c.section_of-s in
-    let records-for = c.records_for-m in
-    (pre.2, section-records args.state (measured args.state _ good.0) pre.0 args.kind _ section-of.ensures _ records-for.ensures)
-
 pub returns : goal.returns
 returns c =
     let args = c.args in

@@ -9,21 +9,6 @@ use Rattle.saved.proofs.written.put_state.Goals as goal
 pub loop-kind-init : goal.loop-kind-init
 loop-kind-init c = (omega arith, (omega arith, sofar-first c.args.state c.args.count c.args.file.now c.requires.1 c.requires.2))
 
-pub section_of-s-requires : goal.section_of-s-requires
-section_of-s-requires c = (c.requires.0, c.loop-kind.invariant.0, omega arith)
-
-pub records_for-m-requires : goal.records_for-m-requires
-records_for-m-requires c = section-few c.args.state (measured c.args.state _ c.well_formed.1.1.0) c.requires.0 c.loop-kind.kind _ c.section_of-s.ensures
-
-pub slice_bounds-put_section-end : goal.slice_bounds-put_section-end
-slice_bounds-put_section-end c =
-    let args = c.args in
-    let good = c.well_formed in
-    let pre = c.requires in
-    let loop = c.loop-kind in
-    let section-of = c.section_of-s in
-    sym (section-long args.state (measured args.state _ good.1.1.0) pre.0 loop.kind _ section-of.ensures)
-
 pub put_section-requires : goal.put_section-requires
 put_section-requires c =
     let args = c.args in
@@ -52,9 +37,6 @@ loop-kind-preserved c =
     let records-for = c.records_for-m in
     let put-section = c.put_section in
     (omega arith, (omega arith, sofar-next args.state args.count args.file.now pre.1 pre.2 loop.kind loop.k _ (omega arith) loop.invariant.1.1 _ section-of.ensures _ records-for.ensures _ put-section.ensures))
-
-pub shape_of-file : goal.shape_of-file
-shape_of-file c = sofar-same c.args.state c.args.count c.args.file.now c.requires.1 c.requires.2 c.loop-kind.kind c.loop-kind.k _ (omega arith) c.loop-kind.invariant.1.1
 
 pub returns : goal.returns
 returns c = sofar-last c.args.state c.args.count c.args.file.now c.requires.1 c.requires.2 c.loop-kind.kind c.loop-kind.k _ (omega arith) c.loop-kind.invariant.1.1

@@ -1,9 +1,0 @@
--- `word_float_step` meets its contract: field by field, or case by case.
-use borrow.Author.Tests.{ne_eqb}
-use Rattle.kinds.proofs.rows.word_float_step.Goals as goal
-
-pub returns-then-stepped-eq0 : goal.returns-then-stepped-eq0
-returns-then-stepped-eq0 c = rw c.if-stepped-eq0.true
-
-pub returns : goal.returns
-returns c = rw (ne_eqb _ 0 c.if-stepped-eq0.false, c.real.ensures)

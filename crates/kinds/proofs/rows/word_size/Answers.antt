@@ -1,9 +1,0 @@
--- `word_size` meets its contract: field by field, or case by case.
-use borrow.Author.Tests.{ne_eqb}
-use Rattle.kinds.proofs.rows.word_size.Goals as goal
-
-pub returns-then-sized-eq0 : goal.returns-then-sized-eq0
-returns-then-sized-eq0 c = rw c.if-sized-eq0.true
-
-pub returns : goal.returns
-returns c = rw (ne_eqb _ 0 c.if-sized-eq0.false)
