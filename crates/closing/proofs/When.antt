@@ -12,15 +12,6 @@ use Rattle.ledger.specs.Closing.{up, new_idle}
 use Rattle.ledger.specs.Words.{all}
 use Rattle.closing.specs.Raw.{is_true, closes_now}
 
--- what a negated test says
-not-true : (b : Bool) → not b ≡ true → b ≡ false
-not-true true e = sym e
-not-true false e = refl
-
-not-false : (b : Bool) → not b ≡ false → b ≡ true
-not-false true e = refl
-not-false false e = sym e
-
 -- ---- the flags that are left from place i on
 
 module _ (n : ℕ) (found : List Bool) (i : ℕ) (many : n ≤ length found) where
@@ -29,13 +20,13 @@ module _ (n : ℕ) (found : List Bool) (i : ℕ) (many : n ≤ length found) whe
       let l : i < length (take n found) = rw (length-take-le n found many) h in
       rw (add-one, drop-cons (take n found) i false l, get_or-take n found i false h)
 
-  pub flag-yes : i < n → not (get_or found i false) ≡ false → all is_true (drop i (take n found)) ≡ all is_true (drop (i + 1) (take n found))
+  pub flag-yes : i < n → get_or found i false ≡ true → all is_true (drop i (take n found)) ≡ all is_true (drop (i + 1) (take n found))
   unfolding all
-  flag-yes h e = rw (next-flag h, not-false (get_or found i false) e)
+  flag-yes h e = rw (next-flag h, e)
 
-  pub flag-no : i < n → not (get_or found i false) ≡ true → all is_true (drop i (take n found)) ≡ false
+  pub flag-no : i < n → get_or found i false ≡ false → all is_true (drop i (take n found)) ≡ false
   unfolding all
-  flag-no h e = rw (next-flag h, not-true (get_or found i false) e)
+  flag-no h e = rw (next-flag h, e)
 
   pub flags-end : n ≤ i → all is_true (drop i (take n found)) ≡ true
   unfolding all
@@ -44,17 +35,17 @@ module _ (n : ℕ) (found : List Bool) (i : ℕ) (many : n ≤ length found) whe
 -- ---- the test
 
 module _ (d : Bool) (n T : ℕ) (found : List Bool) where
-  pub closes-early : not d ≡ true → false ≡ closes_now d n T found
+  pub closes-early : d ≡ false → false ≡ closes_now d n T found
   unfolding closes_now
-  closes-early e = rw (not-true d e)
+  closes-early e = rw e
 
-  pub closes-few : not d ≡ false → T < n → false ≡ closes_now d n T found
+  pub closes-few : d ≡ true → T < n → false ≡ closes_now d n T found
   unfolding closes_now
-  closes-few e h = rw (not-false d e, lt-leb n T h)
+  closes-few e h = rw (e, lt-leb n T h)
 
-  pub closes_by : (t : Bool) → not d ≡ false → n ≤ T → all is_true (take n found) ≡ t → t ≡ closes_now d n T found
+  pub closes_by : (t : Bool) → d ≡ true → n ≤ T → all is_true (take n found) ≡ t → t ≡ closes_now d n T found
   unfolding closes_now
-  closes_by t e h a = rw (not-false d e, le-leb n T h, a)
+  closes_by t e h a = rw (e, le-leb n T h, a)
 
 -- ---- the idle count
 
