@@ -1,5 +1,5 @@
 -- What is left when no row of the table applies, as facts: the limits of document 01's "Bounds", finite and in order.
-use Rattle.std.specs.Prelude.{◌≡◌, false, ◌≤◌, ◌<◌, T, ℤ, pos, nat_abs, ◌≤ℤ◌, ◌<ℤ◌, Float}
+use Rattle.std.specs.Prelude.{◌≡◌, false, ◌≤◌, ◌<◌, T, pos, nat_abs, ◌≤ℤ◌, ◌<ℤ◌, Float}
 use Rattle.std.specs.Float.{binary64}
 use Rattle.std.specs.Float.Ieee.{neg, le, lt, of_bits}
 use Rattle.distribution.specs.declared.CategoricalDistribution.{CategoricalDistribution}

@@ -7,7 +7,7 @@ use mathlib.Core.List.{List}
 use lib.Ieee.{Float}
 use lib.ListN.{get_or, set}
 use borrow.Author.Tests.{eq-eqb, ne_eqb}
-use Rattle.history.specs.Scan.{places, wants, put_where}
+use Rattle.history.specs.Scan.{wants, put_where}
 use Rattle.history.specs.declared.Gathered.{Gathered}
 use Rattle.history.proofs.Places.{put_same, put-none, put_one, wants-in, wants-zero, wants-more, wants-miss}
 use Rattle.history.proofs.absorb.Given as goal

@@ -1,5 +1,5 @@
 -- `from_int` meets its contract: without a step it is steps of 1 from 0, with one it is steps from low.
-use Rattle.std.proofs.Common.{ℤ, ◌+ℤ◌, ◌*ℤ◌, sym, ap, ◌∙◌}
+use Rattle.std.proofs.Common.{◌+ℤ◌, ◌*ℤ◌, sym, ap, ◌∙◌}
 use lib.Ieee.{binary64, sub, div, of_int}
 use Rattle.distribution.specs.declared.IntStep.{IntStep}
 use Rattle.rounding.specs.Round.{whole_z}

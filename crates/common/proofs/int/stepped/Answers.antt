@@ -1,5 +1,5 @@
 -- `stepped` meets its contract: the sum and the clamp of the places are those of the integers.
-use Rattle.std.proofs.Common.{◌≡◌, min, ℤ, ◌+ℤ◌, ◌*ℤ◌, ap, ◌∙◌}
+use Rattle.std.proofs.Common.{◌≡◌, min, ◌+ℤ◌, ◌*ℤ◌, ap, ◌∙◌}
 use Rattle.rounding.specs.Round.{whole_z}
 use Rattle.common.specs.Places.{place_of, at_place, last_place, clamp_place}
 use Rattle.common.proofs.PlaceLaws.{clamp-place, own-z, placed, at-placed}
