@@ -11,7 +11,6 @@ use lib.ListN.{length, get_elem?, set, replicate, length-map, get_or-append}
 use lib.Seq.{take-append_seam, set-get_or}
 use Rattle.rng_util.specs.Gen.{Made, made}
 use Rattle.rng_util.specs.Many.{pad_to}
-use Rattle.rng_util.specs.declared.Gen.{Gen}
 use Rattle.rng_util.proofs.Parts.{pad-put}
 use Rattle.distribution.specs.declared.DimensionInfo.{DimensionInfo}
 use Rattle.distribution.specs.declared.Distribution.{Distribution}
@@ -35,7 +34,6 @@ use Rattle.kernel.specs.De.{de, code_gen, decode_of, extra_of}
 use Rattle.kernel.specs.De as De
 use Rattle.state.specs.Blank.{blank_trial}
 use Rattle.state.specs.View.{laid, candidate_count, progress_of, has_size, size_number}
-use Rattle.state.specs.declared.State.{State}
 use Rattle.assignment.specs.Raw.{no_candidate, place_of, dims_of, setting_for, extra_rec, candidate_for, with_trial, next_at, given_at, served_with, assigned_at, raw_active}
 use Rattle.assignment.specs.Laid.{laid_given, laid_accepted}
 use Rattle.assignment.proofs.Laws.{cond-true, cond-false}

@@ -14,7 +14,7 @@ use Rattle.candidates.specs.declared.Candidate.{Candidate}
 use Rattle.evolution.specs.Mutant.{no_member}
 use Rattle.evolution.specs.declared.Member.{Member}
 use Rattle.ledger.specs.Kernel.{Parent}
-use Rattle.kernel.specs.De.{de, decode_of}
+use Rattle.kernel.specs.De.{decode_of}
 use Rattle.state.specs.Sound.{sound_state}
 use Rattle.state.specs.View.{view, laid, parent_of, parent_count}
 use Rattle.state.specs.declared.State.{State}

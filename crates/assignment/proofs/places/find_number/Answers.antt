@@ -1,4 +1,3 @@
-use Prim.Native.Nat.{◌-◌}
 use native.Mathlib.Omega.{arith}
 use Rattle.assignment.proofs.PlaceLaws.{place-yes, place-no, place_end}
 use Rattle.assignment.proofs.places.find_number.Goals as goal
