@@ -1,5 +1,5 @@
 -- The six kinds of records, and the words of each: docs/SAVED.md, "The six kinds".
-use Rattle.std.specs.Prelude.{ℕ, ◌+◌, ◌≤◌, List, [], ◌∷◌, ◌++◌, cond, take, length, eqb}
+use Rattle.std.specs.Prelude.{ℕ, ◌≤◌, List, [], ◌∷◌, ◌++◌, cond, take, length, eqb}
 use Rattle.rng_util.specs.Many.{pad_to}
 use Rattle.distribution.specs.declared.DimensionInfo.{DimensionInfo}
 use Rattle.state.specs.View.{candidate_count, parent_count}

@@ -1,5 +1,5 @@
 -- What the contracts of `save` and `restore` say together: f is the lent file, n the length that `save` answers.
-use Prim.Native.Nat.{ℕ, ◌+◌, ◌≤◌}
+use Prim.Native.Nat.{ℕ, ◌≤◌}
 use native.Mathlib.Omega.{arith}
 use mathlib.Core.Path.{◌≡◌, refl, sym, ap, ◌∙◌}
 use mathlib.Core.Bool.{true, cond, Bool, false, ◌&&◌}

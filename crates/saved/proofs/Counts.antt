@@ -5,7 +5,6 @@ use native.Mathlib.Omega.{arith}
 use mathlib.Core.Path.{◌≡◌, refl, sym, ap, ◌∙◌, subst}
 use mathlib.Core.Bool.{true, cond, Bool, false}
 use mathlib.Core.List.{List, Memᴰ}
-use mathlib.Core.Option.{some}
 use borrow.Author.Tests.{ne_eqb}
 use lib.ListN.{length}
 use Rattle.ledger.specs.Words.{All}

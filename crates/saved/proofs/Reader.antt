@@ -1,5 +1,5 @@
 -- What `save` and `restore` do, case by case.
-use Prim.Native.Nat.{ℕ, zero, suc, ◌+◌, ◌*◌, ◌%◌, ◌≤◌, ◌<◌}
+use Prim.Native.Nat.{ℕ, zero, suc, ◌*◌, ◌%◌, ◌≤◌, ◌<◌}
 use native.Mathlib.Omega.{arith}
 use mathlib.Core.Path.{◌≡◌, refl, sym, ap, ◌∙◌, subst}
 use mathlib.Core.Bool.{true, cond, Bool, false, ◌&&◌, ◌||◌}
@@ -24,7 +24,6 @@ use Rattle.saved.specs.declared.FileRefusal.TheVariants.{BadFile, BadContent}
 use Rattle.saved.specs.declared.Restored.{Restored}
 use Rattle.saved.specs.declared.SaveAnswer.{SaveAnswer}
 use Rattle.saved.specs.declared.SaveAnswer.TheVariants as S
-use Rattle.saved.proofs.Wrote.{total}
 
 -- ---- the writer
 

@@ -18,7 +18,6 @@ use Rattle.records.specs.Chain.{Piece, records_from, file_of_pieces}
 use Rattle.records.proofs.Pasted.{front-more}
 use Rattle.records.proofs.Written.{records-length}
 use Rattle.records.proofs.Recorded.{bytes-to-length, bytes_to, pieces-length, pieces-padded, records-append}
-use Rattle.records.proofs.Exact.{few}
 use Rattle.kinds.specs.Kinds.{kind_words, Roomy, section_for, count_words}
 use Rattle.kinds.specs.Rows.{setup_words}
 use Rattle.kinds.specs.declared.Section.{Section}

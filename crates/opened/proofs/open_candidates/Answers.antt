@@ -1,4 +1,3 @@
-use Prim.Native.Nat.{◌-◌}
 use native.Mathlib.Omega.{arith}
 use mathlib.Core.Path.{sym, ap, ◌∙◌, subst}
 use lib.ListN.{take, replicate}
@@ -7,7 +6,7 @@ use Rattle.candidates.specs.Candidate.{blank_candidate}
 use Rattle.candidates.specs.declared.Candidate.{Candidate}
 use Rattle.kinds.specs.Opened.{row}
 use Rattle.kinds.specs.Rows.{candidate_in}
-use Rattle.opened.proofs.Opening.{row_is, row_on, row_room, row-length}
+use Rattle.opened.proofs.Opening.{row_is, row_on}
 use Rattle.opened.proofs.open_candidates.Goals as goal
 
 pub loop-i-init : goal.loop-i-init

@@ -1,10 +1,9 @@
-use Prim.Native.Nat.{◌-◌}
 use native.Mathlib.Omega.{arith}
 use mathlib.Core.Path.{ap, ◌∙◌}
-use Rattle.candidates.proofs.Fill.{fill-first, fill-again, fill-last}
+use Rattle.candidates.proofs.Fill.{fill-again, fill-last}
 use Rattle.state.specs.Blank.{blank_dim}
 use Rattle.kinds.specs.Rows.{dim_in}
-use Rattle.opened.proofs.Opening.{row_is, row_on, row_room, row-length}
+use Rattle.opened.proofs.Opening.{row_is, row_on}
 use Rattle.opened.proofs.open_dims.Goals as goal
 
 pub loop-i-preserved : goal.loop-i-preserved

@@ -1,13 +1,12 @@
-use Prim.Native.Nat.{◌+◌, ◌-◌}
+use Prim.Native.Nat.{◌+◌}
 use native.Mathlib.Omega.{arith}
-use mathlib.Core.Path.{sym, ap, ◌∙◌, subst}
-use lib.ListN.{take, replicate}
-use Rattle.candidates.proofs.Fill.{Fill, fill-first, fill-again, fill-last}
-use Rattle.evolution.specs.declared.Member.{Member}
+use mathlib.Core.Path.{ap, ◌∙◌}
+use lib.ListN.{take}
+use Rattle.candidates.proofs.Fill.{fill-again, fill-last}
 use Rattle.selection.specs.Records.{blank_member}
 use Rattle.kinds.specs.Opened.{row}
 use Rattle.kinds.specs.Rows.{member_in}
-use Rattle.opened.proofs.Opening.{row_is, row_on, row_room, row-length}
+use Rattle.opened.proofs.Opening.{row_is, row_on}
 use Rattle.opened.proofs.open_parents.Goals as goal
 
 pub loop-i-preserved : goal.loop-i-preserved

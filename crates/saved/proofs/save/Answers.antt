@@ -1,5 +1,4 @@
 -- `save` meets its contract: 13, then 12, then the state's file in front of what was there (Reader).
-use Prim.Native.Nat.{◌-◌}
 use native.Mathlib.Omega.{arith}
 use mathlib.Core.Path.{sym, ◌∙◌}
 use borrow.Author.Tests.{not-true, not-false}

@@ -1,9 +1,8 @@
-use Prim.Native.Nat.{◌-◌}
 use native.Mathlib.Omega.{arith}
 use borrow.Author.Rules.{rules}
 use lib.ListN.{take}
 use Rattle.kinds.specs.Rows.{candidate_words}
-use Rattle.kinds.proofs.Sectioned.{first, last, candidate-width, row_count, next_row, room}
+use Rattle.kinds.proofs.Sectioned.{first, candidate-width, next_row, room}
 use Rattle.kinds.proofs.sections.candidates_section.Goals as goal
 
 pub loop-i-init : goal.loop-i-init

@@ -1,5 +1,4 @@
 -- `count_row` meets its contract: ten words.
-use native.Mathlib.Omega.{arith}
 use mathlib.Core.List.{[], ◌∷◌}
 use Rattle.kinds.specs.Kinds.{count_words}
 use Rattle.kinds.proofs.sections.count_row.Goals as goal

@@ -1,6 +1,5 @@
 -- `counts_section` meets its contract: one row, and zeros.
-use native.Mathlib.Omega.{arith}
-use mathlib.Core.Path.{refl, ◌∙◌}
+use mathlib.Core.Path.{◌∙◌}
 use Rattle.kinds.proofs.Sectioned.{alone}
 use Rattle.kinds.proofs.sections.counts_section.Goals as goal
 

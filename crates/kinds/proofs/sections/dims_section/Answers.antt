@@ -1,10 +1,9 @@
-use Prim.Native.Nat.{◌-◌}
 use native.Mathlib.Omega.{arith}
 use mathlib.Core.Path.{ap, ◌∙◌}
 use borrow.Author.Rules.{rules}
 use lib.ListN.{length}
 use Rattle.kinds.specs.Rows.{dim_words}
-use Rattle.kinds.proofs.Sectioned.{first, next, last, dim-width}
+use Rattle.kinds.proofs.Sectioned.{first, next, dim-width}
 use Rattle.kinds.proofs.sections.dims_section.Goals as goal
 
 pub loop-i-init : goal.loop-i-init

@@ -1,9 +1,9 @@
-use Prim.Native.Nat.{◌+◌, ◌-◌}
+use Prim.Native.Nat.{◌+◌}
 use native.Mathlib.Omega.{arith}
 use borrow.Author.Rules.{rules}
 use lib.ListN.{take}
 use Rattle.kinds.specs.Rows.{member_words}
-use Rattle.kinds.proofs.Sectioned.{first, last, member-width, row_count, next_row, room}
+use Rattle.kinds.proofs.Sectioned.{first, member-width, next_row, room}
 use Rattle.kinds.proofs.sections.parents_section.Goals as goal
 
 pub loop-i-init : goal.loop-i-init

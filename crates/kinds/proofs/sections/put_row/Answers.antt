@@ -1,9 +1,8 @@
-use Prim.Native.Nat.{ℕ, ◌+◌, ◌-◌}
+use Prim.Native.Nat.{ℕ, ◌+◌}
 use native.Mathlib.Omega.{arith}
 use mathlib.Core.List.{List}
-use mathlib.Core.Path.{◌≡◌, ap, ◌∙◌}
-use lib.ListN.{length, get_or, set}
-use lib.Seq.{paste, paste-zero}
+use mathlib.Core.Path.{ap, ◌∙◌}
+use lib.ListN.{get_or, set}
 use Rattle.records.proofs.Pasted.{paste-next}
 use Rattle.kinds.proofs.sections.put_row.Goals as goal
 

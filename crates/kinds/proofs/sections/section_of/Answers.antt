@@ -1,8 +1,5 @@
 -- `section_of` meets its contract: by the kind.
-use native.Mathlib.Omega.{arith}
-use mathlib.Core.Path.{refl}
 use Rattle.state.proofs.Measured.{measured}
-use Rattle.kinds.proofs.Few.{few_words}
 use Rattle.kinds.proofs.Sectioned.{kind_1, kind_2, kind_3, kind-4, kind-5, kind-6}
 use Rattle.kinds.proofs.sections.section_of.Goals as goal
 

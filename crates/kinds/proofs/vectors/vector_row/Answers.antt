@@ -1,8 +1,6 @@
-use Prim.Native.Nat.{◌-◌}
 use native.Mathlib.Omega.{arith}
 use mathlib.Core.Path.{refl}
-use borrow.Author.Rules.{rules}
-use Rattle.kinds.proofs.Entries.{first, next-entry, next-choice, last}
+use Rattle.kinds.proofs.Entries.{next-entry, next-choice, last}
 use Rattle.kinds.proofs.vectors.vector_row.Goals as goal
 
 pub loop-i-preserved-then-is_continuous : goal.loop-i-preserved-then-is_continuous

@@ -1,6 +1,6 @@
 -- `kind_holds` meets its contract: the section's words and its number of records against the table's.
 use Rattle.state.proofs.Measured.{measured}
-use Rattle.kinds.proofs.Few.{section-few, section-records, compared}
+use Rattle.kinds.proofs.Few.{compared}
 use Rattle.saved.proofs.compared.kind_holds.Goals as goal
 
 pub returns : goal.returns

@@ -1,9 +1,7 @@
-use Prim.Native.Nat.{◌-◌}
 use native.Mathlib.Omega.{arith}
-use mathlib.Core.Path.{sym}
 use Rattle.state.proofs.Measured.{measured}
-use Rattle.kinds.proofs.Few.{section-few, section-records, section-long}
-use Rattle.saved.proofs.Wrote.{sofar-first, sofar-room, sofar-length, sofar-next, sofar-last, sofar-same}
+use Rattle.kinds.proofs.Few.{section-records, section-long}
+use Rattle.saved.proofs.Wrote.{sofar-first, sofar-room, sofar-length, sofar-next, sofar-last}
 use Rattle.saved.proofs.written.put_state.Goals as goal
 
 pub loop-kind-init : goal.loop-kind-init

@@ -1,7 +1,5 @@
 -- `record_total` meets its contract: each section's words by its counts, and their records.
-use native.Mathlib.Omega.{arith}
 use Rattle.state.proofs.Measured.{measured}
-use Rattle.kinds.proofs.Few.{few_words}
 use Rattle.saved.proofs.Wrote.{total-is}
 use Rattle.saved.proofs.written.record_total.Goals as goal
 
