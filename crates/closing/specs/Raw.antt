@@ -87,7 +87,10 @@ reopened s o cs =
 
 -- refusal 11, "a new candidate's entry is NaN", leaves all as it was
 abbrev pub closed_with : State → Slots → Made (List Candidate) → Closed
-closed_with s o m = cond (any_bad m.out) (record { ok = false; state = s; after = start_of s }) (record { ok = true; state = reopened s o m.out; after = m.after })
+closed_with s o m =
+    cond (any_bad m.out)
+    (record { ok = false; state = s; after = start_of s })
+    (record { ok = true; state = reopened s o m.out; after = m.after })
 
 -- step 6 on the state s, where the generation closes with the results in rs
 unfoldable pub raw_close : State → List Float → Closed
