@@ -64,7 +64,8 @@ pub fn look(state: State) -> Looked
     ensures { (result ≡ look_of state) × (look_refusal result.look ≡ unsound_refusal state) }
 {
     if is_sound(state) {
-        if state.closed == 0 {
+        let unclosed = state.closed == 0;
+        if unclosed {
             return bare_look(LookAnswer::Nothing);
         }
         let parents = state.parents;

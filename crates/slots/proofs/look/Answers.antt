@@ -5,10 +5,10 @@ use Rattle.slots.proofs.Looking as By
 use Rattle.slots.proofs.Numbers.{look-meets}
 use Rattle.slots.proofs.look.Goals as goal
 
-pub returns-then-state-eq0 : goal.returns-then-state-eq0
-returns-then-state-eq0 c =
+pub returns-then-unclosed : goal.returns-then-unclosed
+returns-then-unclosed c =
     let s = c.args.state in
-    look-meets s _ (c.bare_look.ensures ∙ By.nothing s (sym c.is_sound.ensures ∙ c.if-is_sound.true) c.if-state-eq0.true)
+    look-meets s _ (c.bare_look.ensures ∙ By.nothing s (sym c.is_sound.ensures ∙ c.if-is_sound.true) c.if-unclosed.true)
 
 pub slot_values-values-requires : goal.slot_values-values-requires
 slot_values-values-requires c = (By.few c.args.state (sym c.is_sound.ensures ∙ c.if-is_sound.true) (measured c.args.state _ c.well_formed.0)).slots
@@ -16,7 +16,7 @@ slot_values-values-requires c = (By.few c.args.state (sym c.is_sound.ensures ∙
 pub returns-then-is_sound : goal.returns-then-is_sound
 returns-then-is_sound c =
     let s = c.args.state in
-    look-meets s _ (By.shown s (sym c.is_sound.ensures ∙ c.if-is_sound.true) (measured s _ c.well_formed.0) c.if-state-eq0.false _ c.slot_values-values.ensures)
+    look-meets s _ (By.shown s (sym c.is_sound.ensures ∙ c.if-is_sound.true) (measured s _ c.well_formed.0) c.if-unclosed.false _ c.slot_values-values.ensures)
 
 pub returns : goal.returns
 returns c =
