@@ -1,9 +1,9 @@
 -- `main` ends: the turns fall.
-use Prim.Native.Nat.{}
+
 use Rattle.replay.proofs.main.Given as goal
 
 abbrev pub invariant-loop-turns : goal.invariant-loop-turns
-invariant-loop-turns g l = Unit {0}
+invariant-loop-turns l = Unit {0}
 
 abbrev pub decreases-loop-turns : goal.decreases-loop-turns
-decreases-loop-turns g l = l.turns
+decreases-loop-turns l = l.turns
