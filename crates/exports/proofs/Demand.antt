@@ -18,7 +18,6 @@ use Rattle.ledger.specs.Assignment.{Accepted}
 use Rattle.ledger.specs.Soundness.{sound_test}
 use Rattle.ledger.specs.Sample.{sample, step, outcome, state_refusal, accept}
 use Rattle.ledger.specs.Sampler.{definition, viewed, returns_from, Meets}
-use Rattle.ledger.specs.Claim.{Demand3}
 use Rattle.ledger.proofs.Theorem.{program-demand3, program-answers}
 use Rattle.kernel.specs.De.{de}
 use Rattle.kernel.proofs.Kernel.{de-laws}

@@ -1,12 +1,12 @@
 -- What the type of a memory says, said of the state that it stands for: a DeState of the machine's numbers opens to a State of the machine's numbers.
 use Prim.Native.Nat.{ℕ, ◌^◌, ◌<◌}
-use mathlib.Core.Path.{◌≡◌, refl, sym, ◌∙◌}
+use mathlib.Core.Path.{refl, ◌∙◌}
 use mathlib.Core.Bool.{Bool, true, false, cond}
 use mathlib.Core.List.{List, [], ◌∷◌, ◌++◌, map}
 use lib.Dec.{eqb}
 use lib.Ieee.{Float}
 use lib.IntN.{ℤ}
-use lib.ListN.{length, length-map}
+use lib.ListN.{length-map}
 use mir.Syntax.{w64}
 use mir.Val.{Val, vint, vbool, vstruct, of_list}
 use types.Match.{live}
@@ -41,7 +41,7 @@ use Rattle.state.specs.declared.FirstTrial.TheVariants.{Unnamed, Named}
 use Rattle.edge.specs.contracts.flat.DeDistribution as FlatD
 use Rattle.edge.specs.contracts.flat.DeSetup as FlatU
 use Rattle.edge.specs.contracts.flat.DeState as F
-use Rattle.edge.specs.Flat.{strategy_of, size_of, setup_of, float_step_of, int_step_of, float_of, int_of, distribution_of, dim_of, first_of, open_with, open_of}
+use Rattle.edge.specs.Flat.{setup_of, float_of, int_of, distribution_of, dim_of, open_with, open_of}
 use Rattle.edge.specs.declared.flat.DeDistribution.{DeDistribution}
 use Rattle.edge.specs.declared.flat.DeSetup.{DeSetup}
 use Rattle.edge.specs.declared.flat.DeState.{DeState}

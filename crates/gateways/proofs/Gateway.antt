@@ -10,7 +10,7 @@ use lib.Dec.{eqb}
 use lib.ListN.{length, take}
 use Rattle.evolution.specs.declared.Setup.{Setup}
 use Rattle.ledger.specs.Call.{Call}
-use Rattle.ledger.specs.Claim.{start, end_from}
+use Rattle.ledger.specs.Claim.{start}
 use Rattle.ledger.specs.State as Plain
 use Rattle.ledger.specs.Words.{All}
 use Rattle.kernel.specs.De.{de}
@@ -29,9 +29,8 @@ use Rattle.saved.proofs.Contracts.{bytes-written}
 use Rattle.saved.proofs.RoundTrip.{Savable, restored-save}
 use Rattle.edge.specs.declared.flat.DeSetup.{DeSetup}
 use Rattle.edge.specs.declared.flat.DeState.{DeState}
-use Rattle.edge.specs.Flat.{distribution_of, setup_of, open_of, flat_of}
+use Rattle.edge.specs.Flat.{distribution_of, setup_of, flat_of}
 use Rattle.edge.specs.Known.{known_setup}
-use Rattle.files.specs.declared.file.DeFile.{DeFile}
 use Rattle.files.specs.File.{nothing, read_of, refused_file, save_answer, saved_answer, save_file, settled_restore}
 use Rattle.exports.specs.Calls.{new_state, restore_answer, restore_state}
 use Rattle.exports.specs.Program.{Sent, answer_to, called, is_known, leaves, library, meant, meant_by, spelled}

@@ -1,6 +1,5 @@
 use lib.ListN.{get_or}
 use mathlib.Core.Path.{◌∙◌}
-use Prim.Native.Nat.{◌-◌}
 use borrow.Author.Rules.{rules}
 use native.Mathlib.Omega.{arith}
 use Rattle.candidates.proofs.Fill.{fill-first, fill-again, fill-last}

@@ -1,6 +1,5 @@
 use lib.ListN.{get_or}
 use mathlib.Core.Path.{◌∙◌}
-use Prim.Native.Nat.{◌-◌}
 use borrow.Author.Rules.{rules}
 use native.Mathlib.Omega.{arith}
 use Rattle.distribution.specs.Dims.{no_dim}

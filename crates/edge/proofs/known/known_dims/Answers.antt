@@ -1,5 +1,4 @@
 use mathlib.Core.Path.{sym, ◌∙◌}
-use Prim.Native.Nat.{◌-◌}
 use borrow.Author.Rules.{rules}
 use Rattle.state.proofs.Loops.{sweep-turn, sweep-end}
 use Rattle.edge.specs.Known.{known_distribution}
