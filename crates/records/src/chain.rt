@@ -43,7 +43,8 @@ pub fn collect(file: &[u8], count: usize, kind: u64) -> Table
         left -= 1;
         let position = read4(file, at + 4);
         if read2(file, at + 2) == kind {
-            if position < 1200 {
+            let placed = position < 1200;
+            if placed {
                 let p = position as usize;
                 words[3 * p] = read8(file, at + 8);
                 words[3 * p + 1] = read8(file, at + 16);

@@ -113,7 +113,8 @@ pub fn restore(old: State, file: &[u8]) -> Restored
         return refused(old, FileRefusal::BadFile);
     }
     let count = chain_length(file);
-    if count == 0 {
+    let chainless = count == 0;
+    if chainless {
         return refused(old, FileRefusal::BadFile);
     }
     content_of(old, file, count)

@@ -26,44 +26,44 @@ overflow_add-at-in-loop-left c = omega (arith, (walks-on _ c.loop-left.left c.lo
 pub read2-requires : goal.read2-requires
 read2-requires c = omega (arith, (walks-on _ c.loop-left.left c.loop-left.k (omega arith) c.loop-left.invariant.0).0)
 
-pub overflow_add-at-then-position-lt1200 : goal.overflow_add-at-then-position-lt1200
-overflow_add-at-then-position-lt1200 c = omega (arith, (walks-on _ c.loop-left.left c.loop-left.k (omega arith) c.loop-left.invariant.0).0)
+pub overflow_add-at-then-placed : goal.overflow_add-at-then-placed
+overflow_add-at-then-placed c = omega (arith, (walks-on _ c.loop-left.left c.loop-left.k (omega arith) c.loop-left.invariant.0).0)
 
 pub read8-requires : goal.read8-requires
 read8-requires c = omega (arith, (walks-on _ c.loop-left.left c.loop-left.k (omega arith) c.loop-left.invariant.0).0)
 
-pub overflow_add-at-then-position-lt1200-2 : goal.overflow_add-at-then-position-lt1200-2
-overflow_add-at-then-position-lt1200-2 c = omega (arith, (walks-on _ c.loop-left.left c.loop-left.k (omega arith) c.loop-left.invariant.0).0)
+pub overflow_add-at-then-placed-2 : goal.overflow_add-at-then-placed-2
+overflow_add-at-then-placed-2 c = omega (arith, (walks-on _ c.loop-left.left c.loop-left.k (omega arith) c.loop-left.invariant.0).0)
 
-pub read8-requires-then-position-lt1200 : goal.read8-requires-then-position-lt1200
-read8-requires-then-position-lt1200 c = omega (arith, (walks-on _ c.loop-left.left c.loop-left.k (omega arith) c.loop-left.invariant.0).0)
+pub read8-requires-then-placed : goal.read8-requires-then-placed
+read8-requires-then-placed c = omega (arith, (walks-on _ c.loop-left.left c.loop-left.k (omega arith) c.loop-left.invariant.0).0)
 
-pub overflow_add-at-then-position-lt1200-3 : goal.overflow_add-at-then-position-lt1200-3
-overflow_add-at-then-position-lt1200-3 c = omega (arith, (walks-on _ c.loop-left.left c.loop-left.k (omega arith) c.loop-left.invariant.0).0)
+pub overflow_add-at-then-placed-3 : goal.overflow_add-at-then-placed-3
+overflow_add-at-then-placed-3 c = omega (arith, (walks-on _ c.loop-left.left c.loop-left.k (omega arith) c.loop-left.invariant.0).0)
 
-pub read8-requires-then-position-lt1200-2 : goal.read8-requires-then-position-lt1200-2
-read8-requires-then-position-lt1200-2 c = omega (arith, (walks-on _ c.loop-left.left c.loop-left.k (omega arith) c.loop-left.invariant.0).0)
+pub read8-requires-then-placed-2 : goal.read8-requires-then-placed-2
+read8-requires-then-placed-2 c = omega (arith, (walks-on _ c.loop-left.left c.loop-left.k (omega arith) c.loop-left.invariant.0).0)
 
-pub loop-left-preserved-then-position-lt1200 : goal.loop-left-preserved-then-position-lt1200
-loop-left-preserved-then-position-lt1200 c =
+pub loop-left-preserved-then-placed : goal.loop-left-preserved-then-placed
+loop-left-preserved-then-placed c =
     let loop = c.loop-left in
     let read2 = c.read2-k in
     let read4 = c.read4-position in
     let read22 = c.read2 in
     let if1 = c.if-read2-kind in
-    let if2 = c.if-position-lt1200 in
+    let if2 = c.if-placed in
     let read8 = c.read8 in
-    let read82 = c.read8-then-position-lt1200 in
-    let read83 = c.read8-then-position-lt1200-2 in
+    let read82 = c.read8-then-placed in
+    let read83 = c.read8-then-placed-2 in
     (on-next _ loop.left loop.k _ (omega arith) read2.ensures.0 loop.invariant.0, sym (here _ _ loop.left loop.k loop.words loop.filled _ _ _ (omega arith) read2.ensures.0 read22.ensures.0 read4.ensures.0 _ _ _ if1.true if2.true read8.ensures read82.ensures read83.ensures) ∙ loop.invariant.1)
 
-pub loop-left-preserved-else-position-lt1200 : goal.loop-left-preserved-else-position-lt1200
-loop-left-preserved-else-position-lt1200 c =
+pub loop-left-preserved-else-placed : goal.loop-left-preserved-else-placed
+loop-left-preserved-else-placed c =
     let loop = c.loop-left in
     let read2 = c.read2-k in
     let read4 = c.read4-position in
     let read22 = c.read2 in
-    let if2 = c.if-position-lt1200 in
+    let if2 = c.if-placed in
     (on-next _ loop.left loop.k _ (omega arith) read2.ensures.0 loop.invariant.0, sym (too_far _ _ loop.left loop.k loop.words loop.filled _ _ _ (omega arith) read2.ensures.0 read22.ensures.0 read4.ensures.0 if2.false) ∙ loop.invariant.1)
 
 pub loop-left-preserved : goal.loop-left-preserved
