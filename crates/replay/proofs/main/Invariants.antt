@@ -1,5 +1,4 @@
 -- `main` ends: the turns fall.
-
 use Rattle.replay.proofs.main.Given as goal
 
 abbrev pub invariant-loop-turns : goal.invariant-loop-turns

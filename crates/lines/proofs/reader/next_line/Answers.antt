@@ -1,4 +1,3 @@
-use Prim.Native.Nat.{◌-◌}
 use Rattle.lines.proofs.reader.next_line.Goals as goal
 
 pub returns-in_default : goal.returns-in_default
