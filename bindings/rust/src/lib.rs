@@ -1,7 +1,7 @@
 //! The differential evolution sampler whose code is proved equal to a written definition (crates/exports of this
 //! repository), behind safe types.
 //!
-//! A call needs 1 MB of stack (870 KB were measured, and the tests run with 1 MB), which Rust's threads have unless they
+//! A call needs 1.5 MB of stack (1,472 KB were measured, and the tests run with 1.5 MB), which Rust's threads have unless they
 //! were told otherwise. Nothing is shared between samplers.
 //!
 //! A campaign asks the sampler for each trial's settings, measures, and lends the measured values back as the history:

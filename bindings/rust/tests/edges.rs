@@ -273,10 +273,10 @@ fn threads_may_share_a_sampler() {
             assert_eq!(looker.join().unwrap(), look);
         }
     });
-    // Rust's threads have the stack that a call needs; so has one of 1 MB.
+    // Rust's threads have the stack that a call needs; so has one of 1.5 MB.
     let mut moved = s.clone();
     let quota = Distribution::float_step(8.0, 256.0, 0.5);
-    let small = std::thread::Builder::new().stack_size(1 << 20);
+    let small = std::thread::Builder::new().stack_size(3 << 19);
     let there = small
         .spawn(move || moved.sample(&quota, 500, &[]))
         .unwrap()

@@ -126,8 +126,8 @@ fn the_first_malformed_line_is_named() {
     let mut long = b"1,2\n".repeat(100_000);
     long.extend(b"1,2");
     assert_eq!(line(&long), Some(100_001));
-    // Rust's threads have the stack that this needs; so has one of 1 MB.
-    let small = std::thread::Builder::new().stack_size(1 << 20);
+    // Rust's threads have the stack that this needs; so has one of 1.5 MB.
+    let small = std::thread::Builder::new().stack_size(3 << 19);
     let there = small.spawn(move || CompletedTrial::read_export(&long).unwrap_err().line());
     assert_eq!(there.unwrap().join().unwrap(), Some(100_001));
 }

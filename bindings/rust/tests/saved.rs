@@ -105,8 +105,8 @@ fn the_largest_file() {
         s.sample(&dims[0], trial, &history).unwrap();
     }
     assert_eq!(round_trip(&s).len(), MAX_FILE);
-    // Rust's threads have the stack that this needs; so has one of 1 MB.
-    let small = std::thread::Builder::new().stack_size(1 << 20);
+    // Rust's threads have the stack that this needs; so has one of 1.5 MB.
+    let small = std::thread::Builder::new().stack_size(3 << 19);
     small.spawn(move || round_trip(&s)).unwrap().join().unwrap();
 }
 
