@@ -78,7 +78,8 @@ pub fn de_to_internal(distribution: DeDistribution, setting: DeSetting) -> DeInt
 pub fn de_draw_ceiling(n: u64, n_dims: u64, strategy: u64) -> u64
     ensures { result ≡ ceiling_at n n_dims strategy }
 {
-    if strategy > 2 {
+    let unknown = strategy > 2;
+    if unknown {
         return 0;
     }
     draw_ceiling(n, n_dims, open_strategy(strategy))

@@ -4,10 +4,10 @@ use borrow.Author.Tests.{le-leb, lt-leb}
 use Rattle.exports.specs.Ceiling.{ceiling_at}
 use Rattle.exports.proofs.de_draw_ceiling.Goals as goal
 
-pub returns-then-strategy-gt2 : goal.returns-then-strategy-gt2
+pub returns-then-unknown : goal.returns-then-unknown
 unfolding ceiling_at
-returns-then-strategy-gt2 c = rw (lt-leb c.args.strategy 2 (omega (arith, c.if-strategy-gt2.true)))
+returns-then-unknown c = rw (lt-leb c.args.strategy 2 (omega (arith, c.if-unknown.true)))
 
 pub returns : goal.returns
 unfolding ceiling_at
-returns c = rw (le-leb c.args.strategy 2 (omega (arith, c.if-strategy-gt2.false)), c.draw_ceiling.ensures, c.open_strategy.ensures)
+returns c = rw (le-leb c.args.strategy 2 (omega (arith, c.if-unknown.false)), c.draw_ceiling.ensures, c.open_strategy.ensures)
