@@ -82,7 +82,8 @@ fn cross_entry(
     requires { from.draws < 2 ^ 63 }
     ensures { result ≡ entry_rec (cross_entry rate j_rand mutant x bounds j from) }
 {
-    if j == j_rand {
+    let own = j == j_rand;
+    if own {
         let entry = clamp_to_bounds(mutant, bounds);
         return DrawnEntry { entry, after: from };
     }

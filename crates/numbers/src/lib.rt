@@ -139,9 +139,10 @@ fn unsigned(w: u64) -> IntWord
 fn minus(w: u64) -> IntWord
     ensures { result ≡ negated w }
 {
+    let fits = w <= 9223372036854775808;
     if w == 0 {
         IntWord::Is(0)
-    } else if w <= 9223372036854775808 {
+    } else if fits {
         IntWord::Is(-1 - ((w - 1) as i64))
     } else {
         IntWord::Not

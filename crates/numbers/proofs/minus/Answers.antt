@@ -10,8 +10,8 @@ use mir.Syntax.{w64}
 use Rattle.numbers.proofs.Signed.{minus_is, minus-fits}
 use Rattle.numbers.proofs.minus.Goals as goal
 
-pub overflow_sub-result-then-w-le9223372036854775808 : goal.overflow_sub-result-then-w-le9223372036854775808
-overflow_sub-result-then-w-le9223372036854775808 c =
+pub overflow_sub-result-then-fits : goal.overflow_sub-result-then-fits
+overflow_sub-result-then-fits c =
     let w = c.args.w in
     subst (SFits w64) (sym (minus_is w c.if-w-eq0.false (omega arith))) (minus-fits w (omega arith))
 
@@ -19,12 +19,12 @@ pub returns-then-w-eq0 : goal.returns-then-w-eq0
 unfolding negated
 returns-then-w-eq0 c = rw c.if-w-eq0.true
 
-pub returns-then-w-le9223372036854775808 : goal.returns-then-w-le9223372036854775808
+pub returns-then-fits : goal.returns-then-fits
 unfolding negated
-returns-then-w-le9223372036854775808 c =
+returns-then-fits c =
     let w = c.args.w in
-    rw (le-leb w (2 ^ 63) (omega arith), to_z-of_z (overflow_sub-result-then-w-le9223372036854775808 c), minus_is w c.if-w-eq0.false (omega arith))
+    rw (le-leb w (2 ^ 63) (omega arith), to_z-of_z (overflow_sub-result-then-fits c), minus_is w c.if-w-eq0.false (omega arith))
 
-pub returns-else-w-le9223372036854775808 : goal.returns-else-w-le9223372036854775808
+pub returns-else-fits : goal.returns-else-fits
 unfolding negated
-returns-else-w-le9223372036854775808 c = rw (lt-leb c.args.w (2 ^ 63) (omega arith))
+returns-else-fits c = rw (lt-leb c.args.w (2 ^ 63) (omega arith))
