@@ -7,6 +7,10 @@ use Rattle.rng_util.specs.Gen.{Made, made}
 abbrev pub pad_to : {A : Type 0} → ℕ → A → List A → List A
 pad_to n d xs = xs ++ replicate (n - length xs) d
 
+-- the same of what was made
+abbrev pub padded : {A : Type 0} → ℕ → A → Made (List A) → Made (List A)
+padded n d m = made (pad_to n d m.out) m.after
+
 abbrev pub cons_made : {A : Type 0} → A → Made (List A) → Made (List A)
 cons_made a r = made (a ∷ r.out) r.after
 

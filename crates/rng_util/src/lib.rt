@@ -2,10 +2,10 @@
 // that the sampler makes. One output is one draw.
 #![tactic(auto)]
 
-ghost use Rattle.std.specs.Prelude.{◌≡◌, ◌+◌, ◌*◌, ◌%◌, ◌^◌, ◌<◌, ◌≤◌, ◌≤ℤ◌, unsigned_abs};
+ghost use Rattle.std.specs.Prelude.{◌≡◌, ◌*◌, ◌%◌, ◌^◌, ◌<◌, ◌≤◌, ◌≤ℤ◌, unsigned_abs};
 ghost use Rattle.rng_util.specs.SplitMix.{drawn, mixed};
 ghost use Rattle.rng_util.specs.Draws.{unit_of, usize_of, i64_of, range_of};
-ghost use Rattle.rng_util.specs.Gen.{draw_of};
+ghost use Rattle.rng_util.specs.Gen.{fresh, draw_of, made};
 
 // The new word, and the output that belongs to it.
 #[derive(Clone, Copy)]
@@ -21,22 +21,32 @@ pub struct Gen {
     pub draws: u64,
 }
 
-#[derive(Clone, Copy)]
-pub struct Drawn {
-    pub output: u64,
-    pub after: Gen,
+impl Gen {
+    // Nothing is drawn yet.
+    pub fn new(word: u64) -> Gen
+        ensures { result ≡ fresh word }
+    {
+        Gen { word, draws: 0 }
+    }
+
+    // One draw, counted.
+    #[tactic(auto, unfolding(crate::specs::Gen::draw_of))]
+    pub fn draw(&mut self) -> u64
+        requires { self.old.draws < 2 ^ 63 }
+        ensures { made result self.new ≡ draw_of self.old }
+    {
+        let stepped = next(self.word);
+        self.word = stepped.word;
+        self.draws += 1;
+        stepped.output
+    }
 }
 
-// a × b modulo 2^64, by halves of 32 bits: the product of the upper halves is a multiple of 2^64.
+// a × b modulo 2^64.
 pub fn wrapping_mul(a: u64, b: u64) -> u64
     ensures { result ≡ (a * b) % 2 ^ 64 }
 {
-    let a0 = a % 0x1_0000_0000;
-    let a1 = a / 0x1_0000_0000;
-    let b0 = b % 0x1_0000_0000;
-    let b1 = b / 0x1_0000_0000;
-    let cross = std::num::wrapping_add_u64(a1 * b0, a0 * b1);
-    std::num::wrapping_add_u64(cross << 32, a0 * b0)
+    a.wrapping_mul(b)
 }
 
 // (z xor z >> k) × m.
@@ -48,31 +58,16 @@ fn mix(z: u64, k: u64, m: u64) -> u64
 }
 
 // SplitMix64: the word grows, and the output is mixed from the new word.
+#[tactic(auto, unfolding(crate::specs::SplitMix::drawn, crate::specs::SplitMix::grown, crate::specs::SplitMix::output_of))]
 pub fn next(word: u64) -> Stepped
     ensures { result ≡ drawn word }
 {
-    let w = std::num::wrapping_add_u64(word, 0x9e37_79b9_7f4a_7c15);
+    let w = word.wrapping_add(0x9e37_79b9_7f4a_7c15);
     let z1 = mix(w, 30, 0xbf58_476d_1ce4_e5b9);
     let z2 = mix(z1, 27, 0x94d0_49bb_1331_11eb);
     Stepped {
         word: w,
         output: z2 ^ (z2 >> 31),
-    }
-}
-
-// One draw, counted.
-pub fn draw(from: Gen) -> Drawn
-    requires { from.draws < 2 ^ 63 }
-    ensures { result ≡ draw_of from }
-{
-    let d = next(from.word);
-    let g = Gen {
-        word: d.word,
-        draws: from.draws + 1,
-    };
-    Drawn {
-        output: d.output,
-        after: g,
     }
 }
 
