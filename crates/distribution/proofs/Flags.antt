@@ -1,13 +1,12 @@
 -- Truth values: the code's tests and branches against the definition's (`a || b` is a where a holds and b where it does not, a row
 -- refuses or hands on to the next), tests as facts, and the code's limits as the definition's.
+use Rattle.std.specs.Prelude.{Result, Err, ⊤}
 use mathlib.Core.Path.{◌≡◌, refl, sym, ap, ◌∙◌, subst}
 use mathlib.Core.Bool.{Bool, true, false, ◌||◌, true≢false}
 use lib.Dec.{T}
 use lib.Ieee.{binary64, round, size, span, climb, units, odd, of_bits, of_fields}
 use lib.Count.{count_trailing_zeros}
 use Rattle.distribution.specs.declared.Refusal.{Refusal}
-use Rattle.distribution.specs.declared.Verdict.{Verdict}
-use Rattle.distribution.specs.declared.Verdict.TheVariants.{Refused}
 use Rattle.distribution.specs.Validate.{float_limit, quotient_limit, refused_if}
 
 pub or-first : {a a' : Bool} (b : Bool) → a ≡ true → a ≡ a' → a ≡ a' || b
@@ -35,10 +34,10 @@ both-fail {b = b} e f = ap (λ (x : Bool). x || b) e ∙ f
 -- ---- rows
 
 -- a is the code's outcome of the row's test a'
-pub row-applies : {a a' : Bool} (r : Refusal) (v : Verdict) → a ≡ true → a ≡ a' → Refused r ≡ refused_if a' r v
+pub row-applies : {a a' : Bool} (r : Refusal) (v : Result ⊤ Refusal) → a ≡ true → a ≡ a' → Err r ≡ refused_if a' r v
 row-applies r v t e = ap (λ (x : Bool). refused_if x r v) (sym t ∙ e)
 
-pub row-passes : {a a' : Bool} {v w : Verdict} (r : Refusal) → a ≡ false → a ≡ a' → w ≡ v → w ≡ refused_if a' r v
+pub row-passes : {a a' : Bool} {v w : (Result ⊤ Refusal)} (r : Refusal) → a ≡ false → a ≡ a' → w ≡ v → w ≡ refused_if a' r v
 row-passes {v = v} r t e h = h ∙ ap (λ (x : Bool). refused_if x r v) (sym t ∙ e)
 
 -- ---- limits

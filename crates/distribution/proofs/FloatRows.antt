@@ -1,4 +1,5 @@
 -- The rows of a Float distribution: each test that fails is a fact, both ways.
+use Rattle.std.specs.Prelude.{Option, Some, None}
 use mathlib.Core.Path.{◌≡◌, refl, sym, ap, ◌∙◌}
 use mathlib.Core.Bool.{false, not, ◌||◌}
 use lib.Dec.{T}
@@ -6,8 +7,6 @@ use lib.Ieee.{Float, binary64, neg, lt, le, round, size, span, climb, units, odd
 use lib.Count.{count_trailing_zeros}
 use borrow.Author.Tests.{not-true, not-false}
 use Rattle.distribution.specs.declared.FloatDistribution.{FloatDistribution}
-use Rattle.distribution.specs.declared.FloatStep.{FloatStep}
-use Rattle.distribution.specs.declared.FloatStep.TheVariants as F
 use Rattle.distribution.specs.Validate.{is_finite, float_limit, quotient_limit, quotient, float_bound_fails, float_bounds_fail, float_step_fails}
 use Rattle.distribution.specs.Good.{GoodBound, GoodFloatStep, GoodFloat}
 use Rattle.distribution.proofs.Flags.{holds, held, neither, both-fail}
@@ -54,10 +53,10 @@ bound-passes x g =
     (not-above (neg float_limit) x (finite_number (neg float_limit) -limit-finite) n g.at_least)
 
 module _ (low high : Float) (l : T (is_finite low)) (h : T (is_finite high)) where
-  good-step-float : (s : FloatStep) → float_step_fails low high s ≡ false → GoodFloatStep low high s
+  good-step-float : (s : Option Float) → float_step_fails low high s ≡ false → GoodFloatStep low high s
   unfolding float_step_fails
-  good-step-float F.Unset e = tt
-  good-step-float (F.By s) e =
+  good-step-float None e = tt
+  good-step-float (Some s) e =
       let a = neither (not (is_finite s) || not (lt (of_bits binary64 0) s)) (lt quotient_limit (quotient low high s)) e in
       let b = neither (not (is_finite s)) (not (lt (of_bits binary64 0) s)) a.0 in
       let f : T (is_finite s) = holds (not-false (is_finite s) b.0) in
@@ -68,10 +67,10 @@ module _ (low high : Float) (l : T (is_finite low)) (h : T (is_finite high)) whe
         few = at_most (quotient low high s) quotient_limit (quotient-number low high s l h f z) (finite_number quotient_limit steps-finite) a.1;
       }
 
-  step-float-passes : (s : FloatStep) → GoodFloatStep low high s → float_step_fails low high s ≡ false
+  step-float-passes : (s : Option Float) → GoodFloatStep low high s → float_step_fails low high s ≡ false
   unfolding float_step_fails
-  step-float-passes F.Unset g = refl
-  step-float-passes (F.By s) g =
+  step-float-passes None g = refl
+  step-float-passes (Some s) g =
       both-fail
       (both-fail (ap not (held (is_finite s) g.finite)) (ap not (held (lt (of_bits binary64 0) s) g.above_zero)))
       (not-above (quotient low high s) quotient_limit (quotient-number low high s l h g.finite g.above_zero) (finite_number quotient_limit steps-finite) g.few)

@@ -1,4 +1,5 @@
 -- The rows of an Int distribution: each test that fails is a fact, both ways. A step that passes is a natural number.
+use Rattle.std.specs.Prelude.{Option, Some, None}
 use mathlib.Core.Path.{◌≡◌, refl, sym, ap, ◌∙◌}
 use mathlib.Core.Bool.{Bool, true, false, not, ◌||◌}
 use Prim.Native.Nat.{ℕ, ◌≤◌, ◌<◌}
@@ -7,8 +8,6 @@ use lib.IntN.{ℤ, pos, negsuc, nat_abs}
 use lib.Signed.{lt_z, le_z, ◌≤ℤ◌, ◌<ℤ◌}
 use borrow.Author.Tests.{ltb-true, ltb-false, le-leb, lt-leb, le-ltb, not-true, not-false}
 use Rattle.distribution.specs.declared.IntDistribution.{IntDistribution}
-use Rattle.distribution.specs.declared.IntStep.{IntStep}
-use Rattle.distribution.specs.declared.IntStep.TheVariants as I
 use Rattle.distribution.specs.Validate.{int_limit, int_bound_fails, int_bounds_fail, int_step_fails}
 use Rattle.distribution.specs.Good.{GoodIntStep, GoodInt}
 use Rattle.distribution.proofs.Flags.{holds, held, neither, both-fail}
@@ -42,17 +41,17 @@ not-at-most a b h = le_z_not_lt_z b a ∙ ap not (held (lt_z a b) h.lt)
 
 -- ---- the rows
 
-good-int-step : (s : IntStep) → int_step_fails s ≡ false → GoodIntStep s
+good-int-step : (s : Option ℤ) → int_step_fails s ≡ false → GoodIntStep s
 unfolding int_step_fails
-good-int-step I.Unset e = tt
-good-int-step (I.By s) e =
+good-int-step None e = tt
+good-int-step (Some s) e =
     let a = neither (le_z s (pos 0)) (lt_z (pos int_limit) s) e in
     (above (pos 0) s a.0, at_most s (pos int_limit) a.1)
 
-pub int-step-passes : (s : IntStep) → GoodIntStep s → int_step_fails s ≡ false
+pub int-step-passes : (s : Option ℤ) → GoodIntStep s → int_step_fails s ≡ false
 unfolding int_step_fails
-int-step-passes I.Unset g = refl
-int-step-passes (I.By s) g = both-fail (not-at-most (pos 0) s g.0) (not-above s (pos int_limit) g.1)
+int-step-passes None g = refl
+int-step-passes (Some s) g = both-fail (not-at-most (pos 0) s g.0) (not-above s (pos int_limit) g.1)
 
 pub good-int : (d : IntDistribution) → int_bounds_fail d.low d.high ≡ false → d.log_scale ≡ false → int_step_fails d.step ≡ false → GoodInt d
 unfolding int_bounds_fail int_bound_fails
@@ -80,6 +79,6 @@ pub record NaturalStep (s : ℤ) : Type 0 where
   pub least : 0 < nat_abs s
   pub most : nat_abs s ≤ int_limit
 
-pub natural-step : (s : ℤ) → GoodIntStep (I.By s) → NaturalStep s
+pub natural-step : (s : ℤ) → GoodIntStep (Some s) → NaturalStep s
 natural-step (pos n) g = record { is = refl; least = ltb→lt 0 n g.0.lt; most = leb→le n int_limit g.1.le }
 natural-step (negsuc n) g = absurd g.0.lt

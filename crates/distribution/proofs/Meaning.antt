@@ -1,7 +1,7 @@
 -- The rows leave exactly the good distributions: `valid-good` and `good-valid`.
+use Rattle.std.specs.Prelude.{None, Result, Ok, Err, ⊤}
 use mathlib.Core.Path.{◌≡◌, refl, ap}
 use mathlib.Core.Bool.{Bool, true, false, true≢false}
-use mathlib.Core.Option.{none}
 use Prim.Native.Nat.{ℕ, ◌≤◌, ◌<◌}
 use native.Mathlib.Omega.{arith}
 use lib.Dec.{ltb, eqb}
@@ -10,8 +10,6 @@ use Rattle.distribution.specs.declared.CategoricalDistribution.{CategoricalDistr
 use Rattle.distribution.specs.declared.Distribution.{Distribution}
 use Rattle.distribution.specs.declared.Distribution.TheVariants.{Float as FloatD, Int as IntD, Categorical}
 use Rattle.distribution.specs.declared.Refusal.{Refusal}
-use Rattle.distribution.specs.declared.Verdict.{Verdict}
-use Rattle.distribution.specs.declared.Verdict.TheVariants.{Valid, Refused}
 use Rattle.distribution.specs.Dims.{continuous, choices}
 use Rattle.distribution.specs.Validate.{choices_limit, bounds_fail, on_log_scale, step_fails, choices_fail, refused_if, verdict_of, refusal_of, judged}
 use Rattle.distribution.specs.Good.{GoodCategorical, Good}
@@ -27,11 +25,11 @@ pub record Passes (d : Distribution) : Type 0 where
   pub step : step_fails d ≡ false
   pub choices : choices_fail d ≡ false
 
-row : (a : Bool) (r : Refusal) (v : Verdict) → refused_if a r v ≡ Valid → (a ≡ false) × (v ≡ Valid)
+row : (a : Bool) (r : Refusal) (v : Result ⊤ Refusal) → refused_if a r v ≡ Ok tt → (a ≡ false) × (v ≡ Ok tt)
 row true r v e = let z : ◌≡◌ {A = ℕ} 0 1 = cc in absurd (omega arith)
 row false r v e = (refl, e)
 
-passes : (d : Distribution) → verdict_of d ≡ Valid → Passes d
+passes : (d : Distribution) → verdict_of d ≡ Ok tt → Passes d
 unfolding verdict_of
 passes d e =
     let one = row (bounds_fail d) _ _ e in
@@ -40,7 +38,7 @@ passes d e =
     let four = row (choices_fail d) _ _ three.1 in
     record { bounds = one.0; not_log = two.0; step = three.0; choices = four.0 }
 
-valid : (d : Distribution) → Passes d → verdict_of d ≡ Valid
+valid : (d : Distribution) → Passes d → verdict_of d ≡ Ok tt
 unfolding verdict_of
 valid d p = simp (p.bounds, p.not_log, p.step, p.choices)
 
@@ -63,12 +61,12 @@ categorical-passes d g =
 
 -- ---- the theorem
 
-pub valid-good : (d : Distribution) → verdict_of d ≡ Valid → Good d
+pub valid-good : (d : Distribution) → verdict_of d ≡ Ok tt → Good d
 valid-good (FloatD d) e = let p = passes (FloatD d) e in good-float d p.bounds p.not_log p.step
 valid-good (IntD d) e = let p = passes (IntD d) e in good-int d p.bounds p.not_log p.step
 valid-good (Categorical d) e = good-categorical d (passes (Categorical d) e).choices
 
-pub good-valid : (d : Distribution) → Good d → verdict_of d ≡ Valid
+pub good-valid : (d : Distribution) → Good d → verdict_of d ≡ Ok tt
 good-valid (FloatD d) g =
     valid (FloatD d) (record { bounds = float-bounds-pass d g; not_log = g.not_log; step = float-step-passes d g; choices = refl })
 good-valid (IntD d) g =
@@ -78,14 +76,14 @@ good-valid (Categorical d) g =
 
 -- ---- the same of the refusal's number
 
-no-refusal : (v : Verdict) → refusal_of v ≡ none → v ≡ Valid
-no-refusal Valid e = refl
-no-refusal (Refused r) e = let z : ◌≡◌ {A = ℕ} 0 1 = cc in absurd (omega arith)
+no-refusal : (v : Result ⊤ Refusal) → refusal_of v ≡ None → v ≡ Ok tt
+no-refusal (Ok tt) e = refl
+no-refusal (Err r) e = let z : ◌≡◌ {A = ℕ} 0 1 = cc in absurd (omega arith)
 
-pub judged-good : (d : Distribution) → judged d ≡ none → Good d
+pub judged-good : (d : Distribution) → judged d ≡ None → Good d
 judged-good d e = valid-good d (no-refusal (verdict_of d) e)
 
-pub good-judged : (d : Distribution) → Good d → judged d ≡ none
+pub good-judged : (d : Distribution) → Good d → judged d ≡ None
 good-judged d g = ap refusal_of (good-valid d g)
 
 -- a good distribution that is not continuous has from 1 to 65,535 choices

@@ -1,10 +1,9 @@
 -- Which dimensions are continuous, and how many choices the others have (document 01, "Records").
-use Rattle.std.specs.Prelude.{ℕ, Bool, true, false}
+use Rattle.std.specs.Prelude.{ℕ, Bool, true, false, None}
 use Rattle.std.specs.Float.{nan}
 use Rattle.distribution.specs.declared.DimensionInfo.{DimensionInfo}
 use Rattle.distribution.specs.declared.Distribution.{Distribution}
 use Rattle.distribution.specs.declared.Distribution.TheVariants.{Float as FloatD, Int as IntD, Categorical}
-use Rattle.distribution.specs.declared.FloatStep.TheVariants.{Unset}
 
 -- "Float and Int are continuous"
 abbrev pub continuous : Distribution → Bool
@@ -26,4 +25,4 @@ choices_of d = choices d.distribution
 
 -- what a read past the end of an array of dimensions gives
 abbrev pub no_dim : DimensionInfo
-no_dim = record { distribution = FloatD (record { low = nan; high = nan; log_scale = false; step = Unset }) }
+no_dim = record { distribution = FloatD (record { low = nan; high = nan; log_scale = false; step = None }) }

@@ -1,16 +1,12 @@
 -- What is left when no row of the table applies, as facts: the limits of document 01's "Bounds", finite and in order.
-use Rattle.std.specs.Prelude.{◌≡◌, false, ◌≤◌, ◌<◌, T, pos, nat_abs, ◌≤ℤ◌, ◌<ℤ◌, Float}
+use Rattle.std.specs.Prelude.{ℤ, ◌≡◌, false, ◌≤◌, ◌<◌, T, pos, nat_abs, ◌≤ℤ◌, ◌<ℤ◌, Float, Option, Some, None}
 use Rattle.std.specs.Float.{binary64}
 use Rattle.std.specs.Float.Ieee.{neg, le, lt, of_bits}
 use Rattle.distribution.specs.declared.CategoricalDistribution.{CategoricalDistribution}
 use Rattle.distribution.specs.declared.Distribution.{Distribution}
 use Rattle.distribution.specs.declared.Distribution.TheVariants.{Float as FloatD, Int as IntD, Categorical}
 use Rattle.distribution.specs.declared.FloatDistribution.{FloatDistribution}
-use Rattle.distribution.specs.declared.FloatStep.{FloatStep}
-use Rattle.distribution.specs.declared.FloatStep.TheVariants as F
 use Rattle.distribution.specs.declared.IntDistribution.{IntDistribution}
-use Rattle.distribution.specs.declared.IntStep.{IntStep}
-use Rattle.distribution.specs.declared.IntStep.TheVariants as I
 use Rattle.distribution.specs.Validate.{is_finite, float_limit, int_limit, quotient_limit, choices_limit, quotient}
 
 -- ---- Float
@@ -25,9 +21,9 @@ pub record GoodStep (low high s : Float) : Type 0 where
   pub above_zero : T (lt (of_bits binary64 0) s)
   pub few : T (le (quotient low high s) quotient_limit)
 
-abbrev pub GoodFloatStep : Float → Float → FloatStep → Type 0
-GoodFloatStep low high F.Unset = Unit {0}
-GoodFloatStep low high (F.By s) = GoodStep low high s
+abbrev pub GoodFloatStep : Float → Float → Option Float → Type 0
+GoodFloatStep low high None = Unit {0}
+GoodFloatStep low high (Some s) = GoodStep low high s
 
 pub record GoodFloat (d : FloatDistribution) : Type 0 where
   pub good_low : GoodBound d.low
@@ -38,9 +34,9 @@ pub record GoodFloat (d : FloatDistribution) : Type 0 where
 
 -- ---- Int
 
-abbrev pub GoodIntStep : IntStep → Type 0
-GoodIntStep I.Unset = Unit {0}
-GoodIntStep (I.By s) = (pos 0 <ℤ s) × (s ≤ℤ pos int_limit)
+abbrev pub GoodIntStep : Option ℤ → Type 0
+GoodIntStep None = Unit {0}
+GoodIntStep (Some s) = (pos 0 <ℤ s) × (s ≤ℤ pos int_limit)
 
 pub record GoodInt (d : IntDistribution) : Type 0 where
   pub small_low : nat_abs d.low ≤ int_limit

@@ -1,19 +1,12 @@
 -- Judging a distribution: rows 4 to 7 of document 01's table of refusals, a definition for each row, and the first that applies.
-use Rattle.std.specs.Prelude.{ℕ, ◌^◌, Bool, true, false, not, ◌||◌, cond, ltb, eqb, ℤ, pos, nat_abs, Float}
-use Rattle.std.proofs.Math.Option.{Option, none, some}
+use Rattle.std.specs.Prelude.{ℕ, ◌^◌, Bool, true, false, not, ◌||◌, cond, ltb, eqb, ℤ, pos, nat_abs, Float, Option, Some, None, Result, Ok, Err, ⊤}
 use Rattle.std.specs.Int.Signed.{lt_z, le_z}
 use Rattle.std.specs.Float.{nan, inf, fin, binary64}
 use Rattle.std.specs.Float.Ieee.{round, neg, sub, div, lt, of_bits}
 use Rattle.distribution.specs.declared.Distribution.{Distribution}
 use Rattle.distribution.specs.declared.Distribution.TheVariants.{Float as FloatD, Int as IntD, Categorical}
-use Rattle.distribution.specs.declared.FloatStep.{FloatStep}
-use Rattle.distribution.specs.declared.FloatStep.TheVariants as F
-use Rattle.distribution.specs.declared.IntStep.{IntStep}
-use Rattle.distribution.specs.declared.IntStep.TheVariants as I
 use Rattle.distribution.specs.declared.Refusal.{Refusal}
 use Rattle.distribution.specs.declared.Refusal.TheVariants.{Bounds, LogScale, Step, Choices}
-use Rattle.distribution.specs.declared.Verdict.{Verdict}
-use Rattle.distribution.specs.declared.Verdict.TheVariants.{Valid, Refused}
 use Rattle.distribution.specs.Refusals.{refusal_number}
 
 -- neither NaN nor an infinity
@@ -80,14 +73,14 @@ quotient low high s = div binary64 (sub binary64 high low) s
 
 -- The tests are in the order of the row. Every comparison with NaN is false: a NaN step is not above 0, and no quotient is NaN where
 -- the bounds pass row 4 and the step is finite and above 0.
-unfoldable pub float_step_fails : Float → Float → FloatStep → Bool
+unfoldable pub float_step_fails : Float → Float → Option Float → Bool
 unfolding quotient_limit quotient lt of_bits
-float_step_fails low high F.Unset = false
-float_step_fails low high (F.By s) = not (is_finite s) || not (lt (of_bits binary64 0) s) || lt quotient_limit (quotient low high s)
+float_step_fails low high None = false
+float_step_fails low high (Some s) = not (is_finite s) || not (lt (of_bits binary64 0) s) || lt quotient_limit (quotient low high s)
 
-unfoldable pub int_step_fails : IntStep → Bool
-int_step_fails I.Unset = false
-int_step_fails (I.By s) = le_z s (pos 0) || lt_z (pos int_limit) s
+unfoldable pub int_step_fails : Option ℤ → Bool
+int_step_fails None = false
+int_step_fails (Some s) = le_z s (pos 0) || lt_z (pos int_limit) s
 
 abbrev pub step_fails : Distribution → Bool
 step_fails (FloatD d) = float_step_fails d.low d.high d.step
@@ -103,21 +96,21 @@ choices_fail (Categorical d) = eqb d.n_choices 0 || ltb choices_limit d.n_choice
 
 -- ---- "The first that applies, in this order, is given, and only then."
 
-abbrev pub refused_if : Bool → Refusal → Verdict → Verdict
-refused_if applies r next = cond applies (Refused r) next
+abbrev pub refused_if : Bool → Refusal → Result ⊤ Refusal → Result ⊤ Refusal
+refused_if applies r next = cond applies (Err r) next
 
-unfoldable pub verdict_of : Distribution → Verdict
+unfoldable pub verdict_of : Distribution → Result ⊤ Refusal
 unfolding float_bounds_fail int_bounds_fail float_step_fails int_step_fails
 verdict_of d =
     refused_if (bounds_fail d) Bounds
     (refused_if (on_log_scale d) LogScale
     (refused_if (step_fails d) Step
-    (refused_if (choices_fail d) Choices Valid)))
+    (refused_if (choices_fail d) Choices (Ok tt))))
 
 -- the number of the refusal, if there is one
-abbrev pub refusal_of : Verdict → Option ℕ
-refusal_of Valid = none
-refusal_of (Refused r) = some (refusal_number r)
+abbrev pub refusal_of : Result ⊤ Refusal → Option ℕ
+refusal_of (Ok tt) = None
+refusal_of (Err r) = Some (refusal_number r)
 
 abbrev pub judged : Distribution → Option ℕ
 judged d = refusal_of (verdict_of d)

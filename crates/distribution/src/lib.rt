@@ -3,29 +3,16 @@
 
 ghost use Rattle.std.specs.Prelude.{◌≡◌};
 ghost use Rattle.distribution.specs.Dims.{continuous, choices};
+ghost use Rattle.distribution.specs.Refusals.{refusal_number};
 
 pub mod validate;
-
-// `Option<f64>` of the Rust.
-#[derive(Clone, Copy)]
-pub enum FloatStep {
-    Unset,
-    By(f64),
-}
-
-// `Option<i64>` of the Rust.
-#[derive(Clone, Copy)]
-pub enum IntStep {
-    Unset,
-    By(i64),
-}
 
 #[derive(Clone, Copy)]
 pub struct FloatDistribution {
     pub low: f64,
     pub high: f64,
     pub log_scale: bool,
-    pub step: FloatStep,
+    pub step: Option<f64>,
 }
 
 #[derive(Clone, Copy)]
@@ -33,7 +20,7 @@ pub struct IntDistribution {
     pub low: i64,
     pub high: i64,
     pub log_scale: bool,
-    pub step: IntStep,
+    pub step: Option<i64>,
 }
 
 #[derive(Clone, Copy)]
@@ -71,7 +58,7 @@ pub struct DimIdx(pub usize);
 pub struct Ci(pub usize);
 
 // The refusals, in the order of their numbers 0 to 11.
-#[derive(Clone, Copy)]
+#[derive(Clone, Copy, PartialEq, Eq)]
 pub enum Refusal {
     StateNotSound,
     MutationFactor,
@@ -87,22 +74,33 @@ pub enum Refusal {
     EntryNan,
 }
 
-// What `validate` says of a distribution.
-#[derive(Clone, Copy)]
-pub enum Verdict {
-    Valid,
-    Refused(Refusal),
+impl Refusal {
+    // The number that callers know a refusal by.
+    pub fn number(self) -> u64
+        ensures { result ≡ refusal_number self }
+    {
+        match self {
+            Refusal::StateNotSound => 0,
+            Refusal::MutationFactor => 1,
+            Refusal::CrossoverRate => 2,
+            Refusal::PopulationSize => 3,
+            Refusal::Bounds => 4,
+            Refusal::LogScale => 5,
+            Refusal::Step => 6,
+            Refusal::Choices => 7,
+            Refusal::HistoryNan => 8,
+            Refusal::Dimensions => 9,
+            Refusal::ExtraTrials => 10,
+            Refusal::EntryNan => 11,
+        }
+    }
 }
 
 // Float and Int are continuous.
 pub fn is_continuous(d: Distribution) -> bool
     ensures { result ≡ continuous d }
 {
-    match d {
-        Distribution::Float(_) => true,
-        Distribution::Int(_) => true,
-        Distribution::Categorical(_) => false,
-    }
+    !matches!(d, Distribution::Categorical(_))
 }
 
 // The number of choices; 0 where there are none.
@@ -110,8 +108,7 @@ pub fn choices_of(d: Distribution) -> u64
     ensures { result ≡ choices d }
 {
     match d {
-        Distribution::Float(_) => 0,
-        Distribution::Int(_) => 0,
         Distribution::Categorical(c) => c.n_choices,
+        _ => 0,
     }
 }

@@ -2,10 +2,7 @@
 ghost use Rattle.std.specs.Prelude.{◌≡◌};
 ghost use Rattle.distribution.specs.Validate.{is_finite, float_bound_fails, float_bounds_fail, int_bound_fails, int_bounds_fail, float_step_fails, int_step_fails, verdict_of};
 
-use super::{
-    CategoricalDistribution, Distribution, FloatDistribution, FloatStep, IntDistribution, IntStep,
-    Refusal, Verdict,
-};
+use super::{CategoricalDistribution, Distribution, FloatDistribution, IntDistribution, Refusal};
 
 // The largest size of a Float bound.
 const FLOAT_LIMIT: f64 = 1e300;
@@ -22,8 +19,7 @@ const CHOICES_LIMIT: u64 = 65535;
 pub fn is_finite(x: f64) -> bool
     ensures { result ≡ is_finite x }
 {
-    let infinity = 1.0 / 0.0;
-    -infinity < x && x < infinity
+    x.is_finite()
 }
 
 // Refusal 4 of one Float bound: not finite, or over 1e300 in size.
@@ -34,6 +30,7 @@ fn float_bound_fails(x: f64) -> bool
 }
 
 // Refusal 4 of a Float distribution.
+#[tactic(auto, unfolding(crate::specs::Validate::float_bounds_fail))]
 fn float_bounds_fail(low: f64, high: f64) -> bool
     ensures { result ≡ float_bounds_fail low high }
 {
@@ -41,16 +38,18 @@ fn float_bounds_fail(low: f64, high: f64) -> bool
 }
 
 // Refusal 6 of a Float distribution: no finite step above 0, or too many of them.
-fn float_step_fails(low: f64, high: f64, step: FloatStep) -> bool
+#[tactic(auto, unfolding(crate::specs::Validate::float_step_fails, crate::specs::Validate::quotient))]
+fn float_step_fails(low: f64, high: f64, step: Option<f64>) -> bool
     ensures { result ≡ float_step_fails low high step }
 {
     match step {
-        FloatStep::Unset => false,
-        FloatStep::By(s) => !is_finite(s) || !(s > 0.0) || (high - low) / s > QUOTIENT_LIMIT,
+        None => false,
+        Some(s) => !is_finite(s) || !(s > 0.0) || (high - low) / s > QUOTIENT_LIMIT,
     }
 }
 
 // Refusal 4 of one Int bound: over 2^53 in size.
+#[tactic(auto, unfolding(crate::specs::Validate::int_bound_fails))]
 pub fn int_bound_fails(x: i64) -> bool
     ensures { result ≡ int_bound_fails x }
 {
@@ -58,6 +57,7 @@ pub fn int_bound_fails(x: i64) -> bool
 }
 
 // Refusal 4 of an Int distribution.
+#[tactic(auto, unfolding(crate::specs::Validate::int_bounds_fail))]
 fn int_bounds_fail(low: i64, high: i64) -> bool
     ensures { result ≡ int_bounds_fail low high }
 {
@@ -65,57 +65,61 @@ fn int_bounds_fail(low: i64, high: i64) -> bool
 }
 
 // Refusal 6 of an Int distribution: a step outside 1 to 2^53.
-fn int_step_fails(step: IntStep) -> bool
+#[tactic(auto, unfolding(crate::specs::Validate::int_step_fails))]
+fn int_step_fails(step: Option<i64>) -> bool
     ensures { result ≡ int_step_fails step }
 {
     match step {
-        IntStep::Unset => false,
-        IntStep::By(s) => s <= 0 || s > INT_LIMIT,
+        None => false,
+        Some(s) => s <= 0 || s > INT_LIMIT,
     }
 }
 
-fn validate_float(d: FloatDistribution) -> Verdict
+#[tactic(auto, unfolding(crate::specs::Validate::verdict_of))]
+fn validate_float(d: FloatDistribution) -> Result<(), Refusal>
     ensures { result ≡ verdict_of (Distribution.Float d) }
 {
     let step = d.step;
     if float_bounds_fail(d.low, d.high) {
-        Verdict::Refused(Refusal::Bounds)
+        Err(Refusal::Bounds)
     } else if d.log_scale {
-        Verdict::Refused(Refusal::LogScale)
+        Err(Refusal::LogScale)
     } else if float_step_fails(d.low, d.high, step) {
-        Verdict::Refused(Refusal::Step)
+        Err(Refusal::Step)
     } else {
-        Verdict::Valid
+        Ok(())
     }
 }
 
-fn validate_int(d: IntDistribution) -> Verdict
+#[tactic(auto, unfolding(crate::specs::Validate::verdict_of))]
+fn validate_int(d: IntDistribution) -> Result<(), Refusal>
     ensures { result ≡ verdict_of (Distribution.Int d) }
 {
     let step = d.step;
     if int_bounds_fail(d.low, d.high) {
-        Verdict::Refused(Refusal::Bounds)
+        Err(Refusal::Bounds)
     } else if d.log_scale {
-        Verdict::Refused(Refusal::LogScale)
+        Err(Refusal::LogScale)
     } else if int_step_fails(step) {
-        Verdict::Refused(Refusal::Step)
+        Err(Refusal::Step)
     } else {
-        Verdict::Valid
+        Ok(())
     }
 }
 
-fn validate_categorical(d: CategoricalDistribution) -> Verdict
+#[tactic(auto, unfolding(crate::specs::Validate::verdict_of))]
+fn validate_categorical(d: CategoricalDistribution) -> Result<(), Refusal>
     ensures { result ≡ verdict_of (Distribution.Categorical d) }
 {
     if d.n_choices == 0 || d.n_choices > CHOICES_LIMIT {
-        Verdict::Refused(Refusal::Choices)
+        Err(Refusal::Choices)
     } else {
-        Verdict::Valid
+        Ok(())
     }
 }
 
 // The first refusal of 4 to 7 that applies.
-pub fn validate(d: Distribution) -> Verdict
+pub fn validate(d: Distribution) -> Result<(), Refusal>
     ensures { result ≡ verdict_of d }
 {
     match d {

@@ -1,5 +1,4 @@
 pub mod Places
+pub mod Absorbing
 pub mod Scans
 pub mod Meaning
-pub mod Called
-pub mod While

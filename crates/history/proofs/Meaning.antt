@@ -1,11 +1,11 @@
 -- What a scan gathers, said of the history as a whole. Entries that cannot matter are left out without loss (`nothing-lost`); then by induction on the history, place by place.
+use Rattle.std.specs.Prelude.{Option, Some, None}
 use mathlib.Core.Path.{◌≡◌, refl, sym, ap, ◌∙◌}
 use mathlib.Core.Logic.{◌≢◌}
 use Prim.Native.Nat.{ℕ, ◌<◌, ◌≤◌}
 use native.Mathlib.Omega.{arith}
 use mathlib.Core.Bool.{Bool, true, false, ◌&&◌, ◌||◌, cond, true≢false}
 use mathlib.Core.List.{List, [], ◌∷◌, ◌++◌}
-use mathlib.Core.Option.{Option, none, some}
 use lib.Dec.{eqb, ltb, leb}
 use lib.Ieee.{Float, nan, is_nan}
 use lib.ListN.{length, get_or}
@@ -124,24 +124,24 @@ latest-true m (e ∷ es) b = latest-true m es (cond (eqb e.number m) true b) ∙
     by-case false u = refl
 
 -- `last_value` as a flag and a value
-latest-option : (m : ℕ) (h : List CompletedTrial) (b : Bool) (v : Float) → value_if (latest (λ _. true) m h b) (last_of m h v) ≡ latest (λ (e : CompletedTrial). some (counted_value e)) m h (value_if b v)
+latest-option : (m : ℕ) (h : List CompletedTrial) (b : Bool) (v : Float) → value_if (latest (λ _. true) m h b) (last_of m h v) ≡ latest (λ (e : CompletedTrial). Some (counted_value e)) m h (value_if b v)
 unfolding latest
 latest-option m [] b v = refl
-latest-option m (e ∷ es) b v = latest-option m es _ _ ∙ ap (latest (λ (x : CompletedTrial). some (counted_value x)) m es) (by-case (eqb e.number m))
+latest-option m (e ∷ es) b v = latest-option m es _ _ ∙ ap (latest (λ (x : CompletedTrial). Some (counted_value x)) m es) (by-case (eqb e.number m))
   where
-    by-case : (t : Bool) → value_if (cond t true b) (cond t (counted_value e) v) ≡ cond t (some (counted_value e)) (value_if b v)
+    by-case : (t : Bool) → value_if (cond t true b) (cond t (counted_value e) v) ≡ cond t (Some (counted_value e)) (value_if b v)
     by-case true = refl
     by-case false = refl
 
 -- ---- the theorems
 -- "its last entry counts": an entry that is added at the end counts for its number, and for no other
-pub last_entry : (m : ℕ) (h : List CompletedTrial) (e : CompletedTrial) → last_value m (h ++ (e ∷ [])) ≡ cond (eqb e.number m) (some (counted_value e)) (last_value m h)
+pub last_entry : (m : ℕ) (h : List CompletedTrial) (e : CompletedTrial) → last_value m (h ++ (e ∷ [])) ≡ cond (eqb e.number m) (Some (counted_value e)) (last_value m h)
 unfolding latest
-last_entry m h e = go h none
+last_entry m h e = go h None
   where
-    go : (es : List CompletedTrial) (o : Option Float) → latest (λ (x : CompletedTrial). some (counted_value x)) m (es ++ (e ∷ [])) o ≡ cond (eqb e.number m) (some (counted_value e)) (latest (λ (x : CompletedTrial). some (counted_value x)) m es o)
+    go : (es : List CompletedTrial) (o : Option Float) → latest (λ (x : CompletedTrial). Some (counted_value x)) m (es ++ (e ∷ [])) o ≡ cond (eqb e.number m) (Some (counted_value e)) (latest (λ (x : CompletedTrial). Some (counted_value x)) m es o)
     go [] o = refl
-    go (x ∷ xs) o = go xs (cond (eqb x.number m) (some (counted_value x)) o)
+    go (x ∷ xs) o = go xs (cond (eqb x.number m) (Some (counted_value x)) o)
 
 -- an entry that refusal 8 is not for does not count as NaN
 pub counted-not-nan : (e : CompletedTrial) → is_bad e ≡ false → counted_value e ≢ nan

@@ -1,6 +1,5 @@
 -- What a whole history says: whether refusal 8 applies, and the value of a trial.
-use Rattle.std.specs.Prelude.{ℕ, Bool, true, false, ◌||◌, cond, List, [], ◌∷◌, eqb, Float}
-use Rattle.std.proofs.Math.Option.{Option, none, some}
+use Rattle.std.specs.Prelude.{ℕ, Bool, true, false, ◌||◌, cond, List, [], ◌∷◌, eqb, Float, Option, Some, None}
 use Rattle.history.specs.Entry.{is_bad, counted_value}
 use Rattle.history.specs.declared.CompletedTrial.{CompletedTrial}
 
@@ -25,9 +24,9 @@ last_of m h v = latest counted_value m h v
 
 -- the same, with nothing where no entry has it
 abbrev pub last_value : ℕ → List CompletedTrial → Option Float
-last_value m h = latest (λ (e : CompletedTrial). some (counted_value e)) m h none
+last_value m h = latest (λ (e : CompletedTrial). Some (counted_value e)) m h None
 
 -- a value that was found, or nothing
 abbrev pub value_if : Bool → Float → Option Float
-value_if true v = some v
-value_if false v = none
+value_if true v = Some v
+value_if false v = None

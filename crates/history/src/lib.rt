@@ -2,9 +2,11 @@
 // A call says which trial numbers it wants; one scan finds them and says whether refusal 8 applies.
 #![tactic(auto)]
 
-ghost use Rattle.std.specs.Prelude.{◌≡◌};
+ghost use Rattle.std.specs.Prelude.{List, ◌≡◌};
+ghost use Rattle.std.specs.Iterator.{Drains, IsFinite};
 ghost use Rattle.history.specs.Entry.{is_bad, counted_value};
-ghost use Rattle.history.specs.Scan.{places, absorbed, may_matter, gathered, trials_of};
+ghost use Rattle.history.specs.Scan.{absorbed, may_matter, gathered, trials_of};
+ghost use Rattle.history.specs.declared.CompletedTrial.{CompletedTrial};
 
 #[repr(C)]
 #[derive(Clone, Copy)]
@@ -23,101 +25,85 @@ pub struct Gathered {
     pub values: [f64; 160],
 }
 
-// Refusal 8: the value is NaN, the one double that differs from itself.
+// Refusal 8: the value is NaN.
+#[tactic(auto, unfolding(crate::specs::Entry::is_bad))]
 pub fn is_bad(entry: CompletedTrial) -> bool
     ensures { result ≡ is_bad entry }
 {
-    let v = entry.value;
-    v != v
+    entry.value.is_nan()
 }
 
 // What the entry counts as for its trial.
+#[tactic(auto, unfolding(crate::specs::Entry::counted_value))]
 pub fn counted_value(entry: CompletedTrial) -> f64
     ensures { result ≡ counted_value entry }
 {
     entry.value
 }
 
-// n, or 160 where n is more: there are no further places.
-fn capped(n: usize) -> usize
-    ensures { result ≡ places n }
-{
-    if n < 160 { n } else { 160 }
-}
-
-// One entry more: its value takes the place of what an earlier entry gave.
-pub fn absorb(from: Gathered, entry: CompletedTrial) -> Gathered
-    ensures { result ≡ absorbed from entry }
-{
-    let mut g = from;
-    let number = entry.number;
-    let value = counted_value(entry);
-    if is_bad(entry) {
-        g.nan = true;
-    }
-    let n = capped(g.n);
-    let mut j: usize = 0;
-    while j < n {
-        if number == g.numbers[j] {
-            g.found[j] = true;
-            g.values[j] = value;
+impl Gathered {
+    // One entry more: its value takes the place of what an earlier entry gave. Out of line, so that the scan's loop over entries that
+    // do not matter stays small: a fifth of the time, of entries in a slice.
+    #[inline(never)]
+    #[tactic(auto, using(crate::proofs::Absorbing::absorbing))]
+    pub fn absorb(&mut self, entry: CompletedTrial)
+        ensures { self.new ≡ absorbed self.old entry }
+    {
+        self.nan |= is_bad(entry);
+        let value = counted_value(entry);
+        let n = self.n.min(160);
+        for j in 0..n {
+            if self.numbers[j] == entry.number {
+                self.found[j] = true;
+                self.values[j] = value;
+            }
         }
-        j += 1;
     }
-    g
 }
 
 // Whether an entry can change anything where all wanted numbers lie in lo..=hi. A long history is cheap by this test.
+#[tactic(auto, unfolding(crate::specs::Scan::may_matter))]
 pub fn may_matter(lo: u64, hi: u64, entry: CompletedTrial) -> bool
     ensures { result ≡ may_matter lo hi entry }
 {
-    if is_bad(entry) {
-        return true;
-    }
-    let number = entry.number;
-    if number < lo {
-        return false;
-    }
-    number <= hi
+    is_bad(entry) || (lo..=hi).contains(&entry.number)
 }
 
-// The scan over plain slices, a number and a value for each entry: where one is longer its rest is no entry.
-pub fn gather_slices<'a>(
-    numbers: &'a [u64],
-    values: &'a [f64],
+// The scan: every entry that may matter, in turn.
+#[tactic(auto, using(crate::proofs::Scans::scans))]
+fn scan<I: Iterator<Item = CompletedTrial> + Drop>(
+    entries: I,
     lo: u64,
     hi: u64,
     from: Gathered,
 ) -> Gathered
-    ensures { result ≡ gathered lo hi (trials_of numbers.now values.now) from }
+    requires can { I.can_next entries }
+    requires ends { IsFinite (I.remaining entries) }
+    ensures { (es : List CompletedTrial) × Drains I.next_gives entries es × (result ≡ gathered lo hi es from) }
 {
     let mut g = from;
-    let mut i: usize = 0;
-    while i < numbers.len() && i < values.len() {
-        let entry = CompletedTrial {
-            number: numbers[i],
-            value: values[i],
-        };
+    for entry in entries {
         if may_matter(lo, hi, entry) {
-            g = absorb(g, entry);
+            g.absorb(entry);
         }
-        i += 1;
     }
     g
+}
+
+// The scan over plain slices, a number and a value for each entry: where one is longer its rest is no entry.
+pub fn gather_slices(numbers: &[u64], values: &[f64], lo: u64, hi: u64, from: Gathered) -> Gathered
+    ensures { result ≡ gathered lo hi (trials_of numbers.now values.now) from }
+{
+    let entries = numbers.iter().zip(values).map(|(number, value)| CompletedTrial {
+        number: *number,
+        value: *value,
+    });
+    scan(entries, lo, hi, from)
 }
 
 // The same scan over a slice of entries.
 pub fn gather(history: &[CompletedTrial], lo: u64, hi: u64, from: Gathered) -> Gathered
     ensures { result ≡ gathered lo hi history.now from }
 {
-    let mut g = from;
-    let mut i: usize = 0;
-    while i < history.len() {
-        let entry = history[i];
-        if may_matter(lo, hi, entry) {
-            g = absorb(g, entry);
-        }
-        i += 1;
-    }
-    g
+    scan(history.iter().copied(), lo, hi, from)
 }

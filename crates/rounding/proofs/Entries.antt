@@ -12,3 +12,5 @@ entry-is-power table t k h =
     let ruled : Bool = every (λ i x. eqb x (2 ^ i)) 0 table in
     let n : length table ≡ 64 = eqb→eq (length table) 64 (and_l sized ruled t) in
     eqb→eq (get_or table k 0) (2 ^ k) (at (λ i x. eqb x (2 ^ i)) table (and_r sized ruled t) k (subst (λ (m : ℕ). k < m) (sym n) h))
+
+pub ruleset entries = (entry-is-power)

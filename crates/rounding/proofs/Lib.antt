@@ -1,5 +1,4 @@
 pub mod Entries
-pub mod Floors
 pub mod Nearest
 pub mod Negated
 pub mod Patterns

@@ -1,7 +1,7 @@
 -- A double's size and what it rounds to, from its bit pattern: by the range that the exponent is in.
 use Rattle.std.proofs.Common.{◌≡◌, ℕ, zero, suc, ◌+◌, ◌-◌, ◌*◌, ◌/◌, ◌%◌, ◌^◌, ◌<◌, ◌≤◌, min, Bool, true, false, cond, not, T, eqb, ltb, leb, ◌⊎◌, sym, refl, ap, ◌∙◌, subst, inl, inr, zero-le, le_trans, lt_of_lt_of_le, le_of_suc-le-suc, mod-lt, zero-lt-suc, eq-or-lt_of_le, div-le_self, arith, lit<, pow_pos, pow_mono, shl_lt, ltb-false, ltb-true, ne_eqb}
 use native.Mathlib.Nat.{min-eq_left}
-use lib.Ieee.{Float, nan, inf, fin, binary64, odd, round, fits, is_nan, of_fields, to_bits, of_bits, eq, ne}
+use lib.Ieee.{Float, nan, inf, binary64, odd, round, fits, is_nan, of_fields, to_bits, of_bits}
 use lib.Ieee.Bits.{of_bits-fits, of_bits-to_bits}
 use lib.Ieee.Exact.{HasValue, odd_sign, round_exact}
 use lib.Ieee.Fits.{round-fits}
@@ -142,14 +142,8 @@ under-bits b h = min-eq_left (go (ltb (exponent b) 1022) refl)
 
 -- ---- a double that is no NaN is that of its pattern
 
-pub no_nan : (x : Float) → ne x x ≡ false → T (not (is_nan x))
-unfolding is_nan ne eq
-no_nan nan e = absurd (subst T e tt)
-no_nan (inf s) e = tt
-no_nan (fin s m e) h = tt
-
 pub own : (x : Float) → fits binary64 x ≡ true → x ≡ of_bits binary64 (to_bits binary64 x)
 own x h = sym (of_bits-to_bits binary64 x (subst T (sym h) tt))
 
-pub own-no-nan : (x : Float) → fits binary64 x ≡ true → ne x x ≡ false → T (not (is_nan (of_bits binary64 (to_bits binary64 x))))
-own-no-nan x h e = subst (λ (y : Float). T (not (is_nan y))) (own x h) (no_nan x e)
+pub own-no-nan : (x : Float) → fits binary64 x ≡ true → T (not (is_nan x)) → T (not (is_nan (of_bits binary64 (to_bits binary64 x))))
+own-no-nan x h n = subst (λ (y : Float). T (not (is_nan y))) (own x h) n

@@ -15,14 +15,15 @@ const SIGN: u64 = powers::POW2[63];
 // 2^52: the weight of the exponent in the pattern, and of the leading digit, which the pattern leaves out.
 const LEADING: u64 = powers::POW2[52];
 
-// `round`: to the nearest whole number, halves away from zero. From 2^52 on every double is whole.
+// `round`: to the nearest whole number, halves away from zero. From 2^52 on every double is whole. It is not std's `f64::round`, which has
+// powers of two of its own: those that rounding works with come from the table (document 02, W4).
 pub fn round(x: f64) -> f64
     ensures { result ≡ round_away x }
 {
-    if x != x {
+    if x.is_nan() {
         return x;
     }
-    let bits = f64::to_bits(x);
+    let bits = x.to_bits();
     if bits % SIGN / LEADING >= 1075 {
         return x;
     }
@@ -34,18 +35,11 @@ pub fn round(x: f64) -> f64
 pub fn floor(x: f64) -> u64
     ensures { result ≡ floor_of x }
 {
-    if x > 0.0 {
-        if x < 18446744073709551616.0 {
-            std::num::truncating_f64_to_u64(x)
-        } else {
-            18446744073709551615
-        }
-    } else {
-        0
-    }
+    std::num::saturating_f64_to_u64(x)
 }
 
-// `clamp`: low below low, high above high, else the value itself.
+// `clamp`: low below low, high above high, else the value itself. It is not std's `f64::clamp`, which asks that low is at most high.
+#[tactic(auto, unfolding(crate::specs::Clamp::clamp_of))]
 pub fn clamp(v: f64, low: f64, high: f64) -> f64
     ensures { result ≡ clamp_of v low high }
 {
@@ -62,10 +56,10 @@ pub fn clamp(v: f64, low: f64, high: f64) -> f64
 pub fn whole_size(x: f64) -> u64
     ensures { result ≡ min (whole_size x) (2 ^ 64 - 1) }
 {
-    if x != x {
+    if x.is_nan() {
         return 0;
     }
-    size_of(f64::to_bits(x))
+    size_of(x.to_bits())
 }
 
 // The same from the bit pattern. The exponent 1075 is that of a whole number of 53 digits; below it 1075 - exponent digits are a fraction.
@@ -82,7 +76,7 @@ fn size_of(bits: u64) -> u64
     } else if exponent < 1087 {
         digits * powers::pow2((exponent - 1075) as usize)
     } else {
-        18446744073709551615
+        u64::MAX
     }
 }
 

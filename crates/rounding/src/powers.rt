@@ -72,6 +72,7 @@ pub const POW2: [u64; 64] = [
 
 // The table as a whole: entry k is 2^k. It is written to the stack wherever it is read at a place that is not known in advance, so a
 // function that needs two entries reads both off one `table()`.
+#[tactic(auto, unfolding(crate::specs::Powers::powers_of_two))]
 pub fn table() -> [u64; 64]
     ensures { T (powers_of_two result) }
 {
@@ -79,10 +80,10 @@ pub fn table() -> [u64; 64]
 }
 
 // 2^k.
+#[tactic(auto, using(crate::proofs::Entries::entries))]
 pub fn pow2(k: usize) -> u64
     requires { k < 64 }
     ensures { result ≡ 2 ^ k }
 {
-    let powers = table();
-    powers[k]
+    table()[k]
 }

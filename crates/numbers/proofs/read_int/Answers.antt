@@ -1,21 +1,19 @@
--- The minus is the definition's test; the arm taken, its case.
-use mathlib.Core.Path.{◌∙◌}
-use Rattle.numbers.proofs.Signed.{int-none, int-minus, int-plain, int-if-is, int-if-not}
-use Rattle.numbers.specs.Numbers.{negated, plain}
-use borrow.Author.Rules.{rules}
+-- The minus is the definition's test.
+use Rattle.std.proofs.Common.{◌≡◌, ◌≢◌, ℕ, List, [], ◌∷◌, get_or, refl, ne_eqb, arith, option_and_then}
+use Prim.Native.Char.{code}
+use Rattle.std.proofs.lemmas.Grind.{common_steps}
+use Rattle.numbers.specs.Numbers.{int_of, whole_of, plain}
 use Rattle.numbers.proofs.read_int.Goals as goal
+use Rattle.numbers.proofs.read_int.Goals.{in_default-via-then-s-lt1, in_default-via-else-s-lt1+in_default-1}
 
-pub returns-then-s-eq0 : goal.returns-then-s-eq0
-returns-then-s-eq0 c = int-none _ c.if-s-eq0.true
+int-plain : (s : List ℕ) → get_or s 0 0 ≢ code "-" → int_of s ≡ option_and_then plain (whole_of s)
+unfolding int_of whole_of
+int-plain [] h = refl
+int-plain (b ∷ bs) h = rw (ne_eqb b (code "-") h) refl
 
-pub returns-in-Is : goal.returns-in-Is
-returns-in-Is c = int-if-is negated _ _ _ c.in-Is.is c.minus.ensures ∙ int-minus _ _ (search rules) c.if-s-eq45.true c.read_whole.ensures
-
-pub returns-in-Not : goal.returns-in-Not
-returns-in-Not c = int-if-not negated _ c.in-Not.is ∙ int-minus _ _ (search rules) c.if-s-eq45.true c.read_whole.ensures
-
-pub returns-in-Is-read_whole : goal.returns-in-Is-read_whole
-returns-in-Is-read_whole c = int-if-is plain _ _ _ c.in-Is-read_whole.is c.unsigned.ensures ∙ int-plain _ _ (search rules) c.if-s-eq45.false c.read_whole-2.ensures
-
-pub returns-in-Not-read_whole : goal.returns-in-Not-read_whole
-returns-in-Not-read_whole c = int-if-not plain _ c.in-Not-read_whole.is ∙ int-plain _ _ (search rules) c.if-s-eq45.false c.read_whole-2.ensures
+pub returns-in_ok-read_whole-in_default : goal.returns-in_ok-read_whole-in_default
+returns-in_ok-read_whole-in_default c =
+    elim c.in_default.branch [
+      | in_default-via-then-s-lt1 w ↦ grind (arith, common_steps, int-plain)
+      | in_default-via-else-s-lt1+in_default-1 w ↦ grind (arith, common_steps, int-plain)
+    ]

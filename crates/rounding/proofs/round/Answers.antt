@@ -1,16 +1,17 @@
 -- `round` meets its contract: a NaN and what is whole already stay; of the rest the size is rounded, and the pattern's sign goes back on.
-use Rattle.std.proofs.Common.{◌≡◌, ℕ, ◌-◌, ◌^◌, ◌<◌, min, Bool, true, T, sym, refl, ap, ◌∙◌, subst, le-leb}
-use lib.Ieee.{Float, nan, binary64, round, neg, to_bits, of_bits, of_int, fits}
-use lib.Ieee.Compare.{differs_from_itself}
+use Rattle.std.proofs.Common.{◌≡◌, ℕ, ◌-◌, ◌^◌, ◌<◌, min, Bool, true, sym, refl, ap, ◌∙◌, le-leb, rules}
+use lib.Ieee.{Float, nan, inf, fin, is_nan, binary64, round, neg, to_bits, of_bits, of_int, fits}
 use borrow.Author.Tests.{lt-leb}
 use Rattle.rounding.specs.Round.{round_away, whole_size}
 use Rattle.rounding.proofs.Negated.{neg-round}
-use Rattle.rounding.proofs.Patterns.{sign, exponent, away-bits, keep-bits, under-bits, no_nan, own, own-no-nan}
+use Rattle.rounding.proofs.Patterns.{sign, exponent, away-bits, keep-bits, under-bits, own, own-no-nan}
 use Rattle.rounding.proofs.round.Goals as goal
 
-nan-stays : nan ≡ round_away nan
-unfolding round_away
-nan-stays = refl
+nan-stays : (x : Float) → is_nan x ≡ true → x ≡ round_away x
+unfolding is_nan round_away
+nan-stays nan e = refl
+nan-stays (inf s) e = cc
+nan-stays (fin s m x) e = cc
 
 -- what is rounded, with the sign of the pattern's highest digit
 rounded : (x : Float) (r : ℕ) → fits binary64 x ≡ true → exponent (to_bits binary64 x) < 1075 → r ≡ min (whole_size (of_bits binary64 (to_bits binary64 x))) (2 ^ 64 - 1) → round_away x ≡ round binary64 (sign (to_bits binary64 x)) r 1
@@ -20,11 +21,8 @@ rounded x r f h e =
     ∙ away-bits b h
     ∙ ap (λ (n : ℕ). round binary64 (sign b) n 1) (sym (e ∙ under-bits b h))
 
-pub returns-then-x : goal.returns-then-x
-returns-then-x c = subst (λ (y : Float). y ≡ round_away y) (sym (differs_from_itself _ (subst T (sym c.if-x.true) tt))) nan-stays
-
-pub float_to_bits-bits : goal.float_to_bits-bits
-float_to_bits-bits c = no_nan c.args.x c.if-x.false
+pub returns-then-is_nan : goal.returns-then-is_nan
+returns-then-is_nan c = nan-stays c.args.x (search rules)
 
 pub returns-then-bits-ge1075 : goal.returns-then-bits-ge1075
 returns-then-bits-ge1075 c =
@@ -33,7 +31,7 @@ returns-then-bits-ge1075 c =
     o ∙ sym (keep-bits (to_bits binary64 x) c.if-bits-ge1075.true) ∙ ap round_away (sym o)
 
 pub size_of-requires : goal.size_of-requires
-size_of-requires c = own-no-nan _ c.well_formed.0.1 c.if-x.false
+size_of-requires c = own-no-nan _ c.well_formed.0.1 (search rules)
 
 pub returns-then-bits-ge-SIGN : goal.returns-then-bits-ge-SIGN
 unfolding of_int
