@@ -1,4 +1,5 @@
 -- Where the state agrees with the ledger, both read a call alike: the same counted results, the same refusal 9 or 10, whether it is of discovery.
+use Rattle.std.specs.Prelude.{Option, Some, None}
 use Rattle.ledger.specs.Words.{refuse_if, has}
 use Rattle.ledger.specs.Kernel.{Kernel, Laws}
 use Rattle.ledger.specs.Call.{Call}
@@ -14,7 +15,6 @@ use Rattle.ledger.proofs.Results.{counted-row}
 use mathlib.Core.Path.{◌≡◌, refl, ap, ap₂, ◌∙◌}
 use mathlib.Core.Bool.{Bool, ◌&&◌}
 use mathlib.Core.List.{List, map}
-use mathlib.Core.Option.{Option, none, some}
 use Prim.Native.Nat.{ℕ, min}
 use lib.Dec.{leb}
 use lib.ListN.{length}
@@ -38,8 +38,8 @@ module _ (K : Kernel) (L : Laws K) where
   same_first o p n e = ap (λ (x : Option ℕ). discovers x n) e ∙ go p
     where
       go : (x : Option ℕ) → discovers x n ≡ is_first x n
-      go none = refl
-      go (some t) = refl
+      go None = refl
+      go (Some t) = refl
 
   -- the sampler counts what the ledger counts
   pub same_row : (N : ℕ) (s : State K) (l : Ledger K) (c : Call K) → Corr s l → counted K N (numbers s.trials) c.history ≡ first_results K N l.open_trials c.history
@@ -57,5 +57,5 @@ module _ (K : Kernel) (L : Laws K) where
       is-open = ap (λ (ns : List ℕ). has ns c.number) (trial-numbers s l r) ∙ has-open l.open_trials c.number
 
       go : (z : Option ℕ) → state_refusal K z s c ≡ ledger_refusal K z l c
-      go none = ap₂ (λ (f : Bool) (ds : List Distribution). refuse_if (f && leb 16 (length ds)) 9) (same_first s.first l.first c.number r.first) r.dims
-      go (some N) = rw (same_row N s l c r, is-open, many)
+      go None = ap₂ (λ (f : Bool) (ds : List Distribution). refuse_if (f && leb 16 (length ds)) 9) (same_first s.first l.first c.number r.first) r.dims
+      go (Some N) = rw (same_row N s l c r, is-open, many)

@@ -1,5 +1,6 @@
 -- The idle count is the ledger's. Idea: each slot holds the least of what was counted for it, so the least of all slots is at most every counted result and is one of them; a closing
 -- makes it smaller exactly where one of its results is below every result counted before.
+use Rattle.std.specs.Prelude.{Some, slice_get}
 use Rattle.ledger.specs.Words.{All, all}
 use Rattle.ledger.specs.Kernel.{Parent, Kernel}
 use Rattle.ledger.specs.State.{cap, values}
@@ -15,11 +16,10 @@ use mathlib.Core.Logic.{◌⊎◌, inl, inr, ◌≢◌}
 use mathlib.Core.Bool.{Bool, true, false, ◌||◌, cond}
 use mathlib.Core.List.Memᴰ
 use mathlib.Core.List.{List, [], ◌∷◌, ◌++◌, append-nil, append_assoc, reverse, reverse-cons, reverse-append, Memᴰ}
-use mathlib.Core.Option.{some}
 use Prim.Native.Nat.{ℕ, zero, suc, ◌≤◌, ◌<◌, min}
 use native.Mathlib.Omega.{arith}
 use lib.Dec.{T}
-use lib.ListN.{length, get_elem?}
+use lib.ListN.{length}
 use lib.Ieee.{Float, nan, inf, le, lt}
 
 -- ---- all that was counted
@@ -37,16 +37,16 @@ results-snoc (c ∷ gs) g = ap (λ (l : List Float). c.results ++ l) (results-sn
 all_cons : (c : Generation) (gs : List Generation) → all_results (c ∷ gs) ≡ all_results gs ++ c.results
 all_cons c gs = ap results_in (reverse-cons c gs) ∙ results-snoc (reverse gs) c
 
-pub result-of : (gs : List Generation) (v : Float) → Memᴰ v (all_results gs) → (g : ℕ) × (i : ℕ) × (result_in gs g i ≡ some v)
+pub result-of : (gs : List Generation) (v : Float) → Memᴰ v (all_results gs) → (g : ℕ) × (i : ℕ) × (result_in gs g i ≡ Some v)
 unfolding results_in
 result-of [] v m = absurd (Memᴰ.not-nil m)
 result-of (c ∷ gs) v m = go (mem-cases (all_results gs) c.results v (subst (Memᴰ v) (all_cons c gs) m)) (result-of gs v)
   where
-    go : Memᴰ v (all_results gs) ⊎ Memᴰ v c.results → (Memᴰ v (all_results gs) → (g : ℕ) × (i : ℕ) × (result_in gs g i ≡ some v)) → (g : ℕ) × (i : ℕ) × (result_in (c ∷ gs) g i ≡ some v)
+    go : Memᴰ v (all_results gs) ⊎ Memᴰ v c.results → (Memᴰ v (all_results gs) → (g : ℕ) × (i : ℕ) × (result_in gs g i ≡ Some v)) → (g : ℕ) × (i : ℕ) × (result_in (c ∷ gs) g i ≡ Some v)
     go (inl h) ih = let r = ih h in (suc r.0, r.1, r.2)
     go (inr h) ih = let r = mem-at v c.results h in (zero, r.0, r.1)
 
-pub result-among : (gs : List Generation) (g i : ℕ) (v : Float) → result_in gs g i ≡ some v → Memᴰ v (all_results gs)
+pub result-among : (gs : List Generation) (g i : ℕ) (v : Float) → result_in gs g i ≡ Some v → Memᴰ v (all_results gs)
 result-among [] g i v e = absurd (none≢some e)
 result-among (c ∷ gs) zero i v e = subst (Memᴰ v) (sym (all_cons c gs)) (mem-later (all_results gs) c.results v (at_mem c.results i v e))
 result-among (c ∷ gs) (suc g) i v e = subst (Memᴰ v) (sym (all_cons c gs)) (mem_old (all_results gs) c.results v (result-among gs g i v e))
@@ -54,17 +54,17 @@ result-among (c ∷ gs) (suc g) i v e = subst (Memᴰ v) (sym (all_cons c gs)) (
 -- ---- one more generation
 
 -- a result of the row is below all before
-pub lowered : (before rs : List Float) → T (lowers before rs) → (i : ℕ) × (r : Float) × (get_elem? rs i ≡ some r) × All (λ w. T (lt r w)) before
+pub lowered : (before rs : List Float) → T (lowers before rs) → (i : ℕ) × (r : Float) × (slice_get rs i ≡ Some r) × All (λ w. T (lt r w)) before
 unfolding lowers
 lowered before [] t = absurd t
 lowered before (r ∷ rs) t = go (all (λ (w : Float). lt r w) before) refl t (lowered before rs)
   where
-    go : (b : Bool) → all (λ (w : Float). lt r w) before ≡ b → T (b || lowers before rs) → (T (lowers before rs) → (i : ℕ) × (x : Float) × (get_elem? rs i ≡ some x) × All (λ w. T (lt x w)) before)
-        → (i : ℕ) × (x : Float) × (get_elem? (r ∷ rs) i ≡ some x) × All (λ w. T (lt x w)) before
+    go : (b : Bool) → all (λ (w : Float). lt r w) before ≡ b → T (b || lowers before rs) → (T (lowers before rs) → (i : ℕ) × (x : Float) × (slice_get rs i ≡ Some x) × All (λ w. T (lt x w)) before)
+        → (i : ℕ) × (x : Float) × (slice_get (r ∷ rs) i ≡ Some x) × All (λ w. T (lt x w)) before
     go true e u ih = (zero, r, refl, all_split (λ (w : Float). lt r w) before (true→T _ e))
     go false e u ih = let h = ih u in (suc h.0, h.1, h.2, h.3)
 
-pub lowers-by : (before rs : List Float) (i : ℕ) (r : Float) → get_elem? rs i ≡ some r → All (λ w. T (lt r w)) before → T (lowers before rs)
+pub lowers-by : (before rs : List Float) (i : ℕ) (r : Float) → slice_get rs i ≡ Some r → All (λ w. T (lt r w)) before → T (lowers before rs)
 unfolding lowers
 lowers-by before [] i r e h = absurd (none≢some e)
 lowers-by before (x ∷ rs) zero r e h =
@@ -80,7 +80,7 @@ idle-snoc gs g = ap idle_since (reverse-append gs (g ∷ []))
 module _ (K : Kernel) where
   open K use {Candidate}
 
-  good-values : (ps : List (Parent Candidate)) → All (λ p. p.value ≢ nan) ps → (i : ℕ) (v : Float) → get_elem? (values K ps) i ≡ some v → v ≢ nan
+  good-values : (ps : List (Parent Candidate)) → All (λ p. p.value ≢ nan) ps → (i : ℕ) (v : Float) → slice_get (values K ps) i ≡ Some v → v ≢ nan
   good-values ps g i v e =
       let t = at_map (λ (p : Parent Candidate). p.value) ps i v e in
       subst (λ (z : Float). z ≢ nan) t.2 (all-at (λ p. p.value ≢ nan) ps g i t.0 t.1)
@@ -89,9 +89,9 @@ module _ (K : Kernel) where
   record Least (ps : List (Parent Candidate)) : Type 0 where
     place : ℕ
     slot : Parent Candidate
-    here : get_elem? ps place ≡ some slot
+    here : slice_get ps place ≡ Some slot
     is : slot.value ≡ least_of (values K ps)
-    least : (i : ℕ) (p : Parent Candidate) → get_elem? ps i ≡ some p → T (le (least_of (values K ps)) p.value)
+    least : (i : ℕ) (p : Parent Candidate) → slice_get ps i ≡ Some p → T (le (least_of (values K ps)) p.value)
 
   least-slot : (ps : List (Parent Candidate)) → 1 ≤ length ps → All (λ p. p.value ≢ nan) ps → Least ps
   least-slot ps h g =
@@ -111,9 +111,9 @@ module _ (K : Kernel) where
   module _ (ps : List (Parent Candidate)) (cs : List Candidate) (row : List Float) (gs : List Generation)
       (many : 1 ≤ length ps) (each : length (select K ps cs row) ≡ length ps) (rows : length row ≡ length ps)
       (olds : All (λ p. p.value ≢ nan) ps) (news : All (λ p. p.value ≢ nan) (select K ps cs row)) (good : All (λ v. v ≢ nan) row)
-      (counted : (i : ℕ) (p : Parent Candidate) → get_elem? ps i ≡ some p → (g : ℕ) × (result_in gs g i ≡ some p.value))
-      (at_least_lem : (i : ℕ) (p : Parent Candidate) → get_elem? ps i ≡ some p → (g : ℕ) (v : Float) → result_in gs g i ≡ some v → T (le p.value v))
-      (inside : (g i : ℕ) (v : Float) → result_in gs g i ≡ some v → i < length ps) where
+      (counted : (i : ℕ) (p : Parent Candidate) → slice_get ps i ≡ Some p → (g : ℕ) × (result_in gs g i ≡ Some p.value))
+      (at_least_lem : (i : ℕ) (p : Parent Candidate) → slice_get ps i ≡ Some p → (g : ℕ) (v : Float) → result_in gs g i ≡ Some v → T (le p.value v))
+      (inside : (g i : ℕ) (v : Float) → result_in gs g i ≡ Some v → i < length ps) where
     abbrev before : Float
     before = least_of (values K ps)
 
@@ -140,7 +140,7 @@ module _ (K : Kernel) where
             → T (lowers (all_results gs) row)
         go t (inl x) =
             let e : t.new.value ≡ after = ap (λ (p : Parent Candidate). p.value) (sym x.1) ∙ new.is in
-            lowers-by (all_results gs) row new.place after (t.value_at ∙ ap some e) (λ w m. lt-le-trans after before w h (under w m))
+            lowers-by (all_results gs) row new.place after (t.value_at ∙ ap Some e) (λ w m. lt-le-trans after before w h (under w m))
         go t (inr x) =
             let e : t.old.value ≡ after = ap (λ (p : Parent Candidate). p.value) (sym x.1) ∙ new.is in
             let b : T (le before after) = subst (λ (z : Float). T (le before z)) e (old.least new.place t.old t.old_at) in
@@ -155,7 +155,7 @@ module _ (K : Kernel) where
         let t = selected K ps cs row l.0 p.0 p.1 in
         le_lt_trans after l.1 before (le_trans after p.0.value l.1 (new.least l.0 p.0 p.1) (at-most l.0 l.1 l.2 p.0 t t.which)) below
       where
-        at-most : (i : ℕ) (r : Float) → get_elem? row i ≡ some r → (p : Parent Candidate) (t : Selected K ps cs row i p)
+        at-most : (i : ℕ) (r : Float) → slice_get row i ≡ Some r → (p : Parent Candidate) (t : Selected K ps cs row i p)
             → ((le t.new.value t.old.value ≡ true) × (p ≡ t.new)) ⊎ ((le t.new.value t.old.value ≡ false) × (p ≡ t.old)) → T (le p.value r)
         at-most i r e p t (inl x) =
             let is : p.value ≡ r = ap (λ (q : Parent Candidate). q.value) x.1 ∙ some_inj (sym t.value_at ∙ e) in
@@ -180,7 +180,7 @@ pub idle-first : (gs : List Generation) (g : Generation) → length gs ≡ 0 →
 unfolding results_in
 idle-first gs g z h = idle-snoc gs g ∙ ap (λ (b : Bool). cond b 0 (suc (idle_on gs))) (T→true (lowers (all_results gs) g.results) (lowers-by (all_results gs) g.results 0 r.0 r.1 (none gs z r.0)))
   where
-    r : (v : Float) × (get_elem? g.results 0 ≡ some v)
+    r : (v : Float) × (slice_get g.results 0 ≡ Some v)
     r = some_at g.results 0 h
 
     none : (cs : List Generation) → length cs ≡ 0 → (v : Float) → All (λ w. T (lt v w)) (all_results cs)

@@ -1,5 +1,6 @@
 -- What `idle_on` counts: the closed generations since one last lowered the least, and there is one such number only. Idea: one generation more either lowers the least, and the count starts
 -- again, or does not, and the one that did before is still the last; the results before it are the ledger's, whichever way the generations are listed.
+use Rattle.std.specs.Prelude.{Some, slice_get}
 use Rattle.ledger.specs.Words.{All}
 use Rattle.ledger.specs.Ledger.{Generation, result_in}
 use Rattle.ledger.specs.Idle.{results_in, lowers, idle_since, idle_on, Lowered, IdleFor}
@@ -9,18 +10,17 @@ use mathlib.Core.Path.{◌≡◌, refl, sym, subst}
 use mathlib.Core.Logic.{inl, inr}
 use mathlib.Core.Bool.{Bool, true, false, cond}
 use mathlib.Core.List.{List, [], ◌∷◌, ◌++◌, reverse, reverse-cons, reverse-reverse}
-use mathlib.Core.Option.{some}
 use Prim.Native.Nat.{ℕ, suc, ◌+◌, ◌-◌, ◌≤◌, ◌<◌}
 use native.Mathlib.Decide.{dec_le}
 use native.Mathlib.Omega.{arith}
 use lib.Dec.{T}
-use lib.ListN.{length, get_elem?}
+use lib.ListN.{length}
 use lib.Ieee.{Float, lt}
 
 restrict : (gs : List Generation) (new : Generation) (g : ℕ) → g < length gs → Lowered (gs ++ (new ∷ [])) g → Lowered gs g
 restrict gs new g l a = record { slot = a.slot; value = a.value; counted = old (result-cases gs new g a.slot a.value a.counted); smaller = λ h i w b e. a.smaller h i w b (result-old gs new h i w e) }
   where
-    old : Earlier gs new g a.slot a.value → result_in gs g a.slot ≡ some a.value
+    old : Earlier gs new g a.slot a.value → result_in gs g a.slot ≡ Some a.value
     old (inl x) = x
     old (inr x) = absurd (omega (arith, x.0))
 
@@ -42,7 +42,7 @@ module _ (gs : List Generation) (new : Generation) where
       under v a h i w b (inl x) = a w (result-among gs h i w x)
       under v a h i w b (inr x) = absurd (omega (arith, x.0))
 
-  lowers-now : (v : Float) (i : ℕ) → get_elem? new.results i ≡ some v → ((h j : ℕ) (w : Float) → h < length gs → result_in (gs ++ (new ∷ [])) h j ≡ some w → T (lt v w)) → T (lowers (all_results gs) new.results)
+  lowers-now : (v : Float) (i : ℕ) → slice_get new.results i ≡ Some v → ((h j : ℕ) (w : Float) → h < length gs → result_in (gs ++ (new ∷ [])) h j ≡ Some w → T (lt v w)) → T (lowers (all_results gs) new.results)
   lowers-now v i e below =
       lowers-by (all_results gs) new.results i v e
       (λ w m. let r = result-of gs w m in below r.0 r.1 w (result-below gs r.0 r.1 w r.2) (result-old gs new r.0 r.1 w r.2))

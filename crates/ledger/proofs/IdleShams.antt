@@ -2,7 +2,7 @@
 -- hold over a run of two closings. Idea: by computing, the count is 0 after the second closing, and on the ledger it is 1.
 use Rattle.ledger.specs.Kernel.{Parent}
 use Rattle.ledger.specs.Call.{Call}
-use Rattle.ledger.specs.State.{State, Result}
+use Rattle.ledger.specs.State.{State, Returned}
 use Rattle.ledger.specs.Claim.{Demand3}
 use Rattle.ledger.proofs.Toy.{Entry, toy}
 use Rattle.ledger.proofs.Example.{f, got, call, computed}
@@ -32,7 +32,7 @@ above = closings (results 3 5) (results 9 4)
 
 -- ---- the shams: a closing sets the count to 0 where a test of the parents before and after it passes, and at the first closing
 
-abbrev set_idle : Result toy (State toy) → ℕ → Result toy (State toy)
+abbrev set_idle : Returned toy (State toy) → ℕ → Returned toy (State toy)
 set_idle r k =
     let s = r.state in
     let o = s.slots in

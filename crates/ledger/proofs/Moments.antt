@@ -1,8 +1,9 @@
 -- Each call keeps what holds where a list stands: first of the definition's call, whatever comes of it, then of a sampler that meets the definition.
-use Rattle.ledger.specs.Words.{or_else, refuse_if, is_none}
+use Rattle.std.specs.Prelude.{Option, Some, None, IsSome, is_none, slice_get}
+use Rattle.ledger.specs.Words.{or_else, refuse_if}
 use Rattle.ledger.specs.Kernel.{Kernel, Laws}
 use Rattle.ledger.specs.Call.{Call, any_bad, call_refusal}
-use Rattle.ledger.specs.State.{State, fresh, given, Result, refuse}
+use Rattle.ledger.specs.State.{State, fresh, given, Returned, refuse}
 use Rattle.ledger.specs.Assignment.{Accepted}
 use Rattle.ledger.specs.Soundness.{Sound}
 use Rattle.ledger.specs.Sample.{state_refusal, accept, outcome, step, sample, eleven_at}
@@ -16,26 +17,26 @@ use Rattle.ledger.proofs.Sound.{accept-sound, fresh-sound}
 use Rattle.ledger.proofs.SoundTest.{sample-step, sample-sound}
 use Rattle.ledger.proofs.Invariant.{Right, Inv, Seen, add-moment, seen-now}
 use Rattle.ledger.proofs.Accept.{accept-ok}
+use mathlib.Core.Bool.{true≢false}
 use mathlib.Core.Path.{◌≡◌, refl, sym, ap, subst, ◌∙◌}
 use mathlib.Core.Logic.{◌↔◌}
 use mathlib.Core.List.Memᴰ
 use mathlib.Core.List.{List, [], ◌∷◌, ◌++◌}
-use mathlib.Core.Option.{Option, none, some, IsSome}
 use Prim.Native.Nat.{ℕ, suc, ◌<◌}
 use native.Mathlib.Omega.{arith}
-use lib.ListN.{length, get_elem?}
+use lib.ListN.{length}
 
 module _ (K : Kernel) (L : Laws K) where
   open K use {Setup, Candidate, judged, decode, Fits}
 
   -- what can come of a call of the definition: a refusal, or an accepted call that no refusal is for
-  outcomes : (P : Result K (State K) → Option ℕ → Type 0) (s : State K) (a b : Option ℕ) (o : Option (Accepted K)) → ((r : ℕ) → P (refuse K r s) (some r))
-      → ((x : Accepted K) → a ≡ none → b ≡ none → o ≡ some x → P (record { answer = given x.setting; draws = x.draws; state = x.state }) none)
+  outcomes : (P : Returned K (State K) → Option ℕ → Type 0) (s : State K) (a b : Option ℕ) (o : Option (Accepted K)) → ((r : ℕ) → P (refuse K r s) (Some r))
+      → ((x : Accepted K) → a ≡ None → b ≡ None → o ≡ Some x → P (record { answer = given x.setting; draws = x.draws; state = x.state }) None)
       → P (outcome K s (or_else a b) o) (or_else a (or_else b (refuse_if (is_none o) 11)))
-  outcomes P s (some r) b o f g = f r
-  outcomes P s none (some r) o f g = f r
-  outcomes P s none none none f g = f 11
-  outcomes P s none none (some x) f g = g x refl refl refl
+  outcomes P s (Some r) b o f g = f r
+  outcomes P s None (Some r) o f g = f r
+  outcomes P s None None None f g = f 11
+  outcomes P s None None (Some x) f g = g x refl refl refl
 
   module _ (X : Sampler K) (S : Setup) where
     -- ---- the definition's call
@@ -45,13 +46,13 @@ module _ (K : Kernel) (L : Laws K) where
       abbrev next : Option ℕ → Ledger K
       next f = unless_refused K f l (accepted K S l.size l c)
 
-      record Shown (r : Result K (State K)) (f : Option ℕ) : Type 0 where
+      record Shown (r : Returned K (State K)) (f : Option ℕ) : Type 0 where
         inv : Inv K L X S ms r.state (next f)
         refusal : refusal_in K r.answer ≡ f
-        back : IsSome f → (setting_in K r.answer ≡ none) × (r.draws ≡ 0) × (r.state ≡ s)
+        back : IsSome f → (setting_in K r.answer ≡ None) × (r.draws ≡ 0) × (r.state ≡ s)
         closes : (length r.state.trials < length s.trials) ↔ (length l.generations < length (next f).generations)
-        setting : (i k : ℕ) → k < length (next f).dims → (f ≡ none) × (get_elem? (next f).open_trials i ≡ some (record { number = c.number; calls = suc k }))
-            → (y : Candidate) × (get_elem? r.state.candidates i ≡ some y) × Fits (next f).dims y × (setting_in K r.answer ≡ some (decode (next f).dims k y))
+        setting : (i k : ℕ) → k < length (next f).dims → (f ≡ None) × (slice_get (next f).open_trials i ≡ Some (record { number = c.number; calls = suc k }))
+            → (y : Candidate) × (slice_get r.state.candidates i ≡ Some y) × Fits (next f).dims y × (setting_in K r.answer ≡ Some (decode (next f).dims k y))
 
       shown-step : Shown (step K S s c) (refusal_of K l c (eleven_at K S s c))
       unfolding step refusal_of eleven_at
@@ -62,17 +63,17 @@ module _ (K : Kernel) (L : Laws K) where
           (λ x p q e.
           let good = not-refused (any_bad K c.history) 8 (neither (judged c.distribution) _ p).1 in
           let f = accept-sound K L S s u c p s.size refl q x e in
-          let d = accept-ok K L X S ms s l v u seen c good x f l.size refl (subst (λ (z : Option ℕ). accept K S z s c ≡ some x) v.corr.size e) in
+          let d = accept-ok K L X S ms s l v u seen c good x f l.size refl (subst (λ (z : Option ℕ). accept K S z s c ≡ Some x) v.corr.size e) in
           record {
             inv = d.done.inv;
             refusal = refl;
-            back = λ t. absurd t;
+            back = λ t. absurd (true≢false (sym t));
             closes = d.closes;
-            setting = λ i k b y. let h = d.done.handed i k b y.1 in (h.0, h.1, h.2, ap some h.3);
+            setting = λ i k b y. let h = d.done.handed i k b y.1 in (h.0, h.1, h.2, ap Some h.3);
           }))
 
       shown : Shown (sample K S s c) (refusal_of K l c (eleven_at K S s c))
-      shown = subst (λ (r : Result K (State K)). Shown r (refusal_of K l c (eleven_at K S s c))) (sym (sample-step K L S s c u)) shown-step
+      shown = subst (λ (r : Returned K (State K)). Shown r (refusal_of K l c (eleven_at K S s c))) (sym (sample-step K L S s c u)) shown-step
 
     -- ---- the sampler's call, and a list of them
 
@@ -96,10 +97,10 @@ module _ (K : Kernel) (L : Laws K) where
         result = meets.call_view p.state c h.clean ∙ ap (λ (s : State K). sample K S s c) h.agrees
 
         answer : (ran K X S m).answer ≡ (defined_result K X S m).answer
-        answer = ap (λ (x : Result K (State K)). x.answer) result
+        answer = ap (λ (x : Returned K (State K)). x.answer) result
 
         state : X.view (ran K X S m).state ≡ (defined_result K X S m).state
-        state = ap (λ (x : Result K (State K)). x.state) result
+        state = ap (λ (x : Returned K (State K)). x.state) result
 
         clean : meets.Clean (ran K X S m).state
         clean = meets.call_clean p.state c h.clean
@@ -109,7 +110,7 @@ module _ (K : Kernel) (L : Laws K) where
             let b = r.back t in
             record {
               no_setting = ap (setting_in K) answer ∙ b.0;
-              no_draws = ap (λ (x : Result K (State K)). x.draws) result ∙ b.1;
+              no_draws = ap (λ (x : Returned K (State K)). x.draws) result ∙ b.1;
               same_state = meets.view_whole (ran K X S m).state p.state clean h.clean (state ∙ (b.2 ∙ sym h.agrees));
             }
 

@@ -1,4 +1,5 @@
 -- Steps 6 and 5 on a sound state: what a closing leaves, and what an assignment leaves, as records of facts that the later files go by.
+use Rattle.std.specs.Prelude.{Option, Some, None, slice_get}
 use Rattle.ledger.specs.Words.{All}
 use Rattle.ledger.specs.Kernel.{Gen, Made, Kernel, Laws}
 use Rattle.ledger.specs.Call.{Call}
@@ -14,10 +15,9 @@ use mathlib.Core.Path.{◌≡◌, refl, sym, ap, subst, ◌∙◌}
 use mathlib.Core.Logic.{◌≢◌}
 use mathlib.Core.Bool.{Bool, true, false}
 use mathlib.Core.List.{List, [], ◌∷◌, ◌++◌}
-use mathlib.Core.Option.{Option, none, some}
 use Prim.Native.Nat.{ℕ, zero, suc, ◌≤◌, ◌<◌, max}
 use native.Mathlib.Omega.{arith}
-use lib.ListN.{length, get_elem?}
+use lib.ListN.{length}
 use lib.Ieee.{Float, nan}
 
 module _ (K : Kernel) (L : Laws K) where
@@ -68,7 +68,7 @@ module _ (K : Kernel) (L : Laws K) where
           capped = omega arith;
         }
 
-  pub close-sound : (S : Setup) (N : ℕ) (s : State K) → Sound K S s → s.size ≡ some N → (many : ℕ) (row : List Float) → Counted K L N many row → (cs : List Candidate) → length cs ≡ N → All (Fits s.dims) cs
+  pub close-sound : (S : Setup) (N : ℕ) (s : State K) → Sound K S s → s.size ≡ Some N → (many : ℕ) (row : List Float) → Counted K L N many row → (cs : List Candidate) → length cs ≡ N → All (Fits s.dims) cs
       → Sound K S (reopen K s (settle K s.slots s.candidates row) cs)
   close-sound S N s v sz many row q cs e f =
       record {
@@ -85,7 +85,7 @@ module _ (K : Kernel) (L : Laws K) where
     pub many : length cs ≡ N
     pub fit : All (Fits s.dims) cs
 
-  pub closing : (S : Setup) (N : ℕ) (s : State K) → Sound K S s → s.size ≡ some N → (many : ℕ) (row : List Float) → Counted K L N many row → (g : Gen Word) (m : Made Word (State K)) → close K S s g (some row) ≡ some m
+  pub closing : (S : Setup) (N : ℕ) (s : State K) → Sound K S s → s.size ≡ Some N → (many : ℕ) (row : List Float) → Counted K L N many row → (g : Gen Word) (m : Made Word (State K)) → close K S s g (Some row) ≡ Some m
       → Reopened N s row m
   unfolding close
   closing S N s v sz many row q g m e =
@@ -107,15 +107,15 @@ module _ (K : Kernel) (L : Laws K) where
     pub y : Candidate
     pub gen : Gen Word
     pub is : a ≡ serve K s c cs y gen
-    pub at : get_elem? cs (place_in (numbers s.trials) c.number) ≡ some y
+    pub at : slice_get cs (place_in (numbers s.trials) c.number) ≡ Some y
     pub many : length cs ≡ max N (length (move (length s.dims) s.trials c.number))
-    pub kept : (i : ℕ) → i < N → get_elem? cs i ≡ get_elem? s.candidates i
+    pub kept : (i : ℕ) → i < N → slice_get cs i ≡ slice_get s.candidates i
     pub fit : All (Fits s.dims) cs
 
-  pub assigned : (S : Setup) (N : ℕ) (s : State K) → Sound K S s → s.size ≡ some N → (c : Call K) (g : Gen Word) (a : Accepted K)
-      → assign K S s c g (get_elem? s.candidates (place_in (numbers s.trials) c.number)) ≡ some a → Assigned N s c a
+  pub assigned : (S : Setup) (N : ℕ) (s : State K) → Sound K S s → s.size ≡ Some N → (c : Call K) (g : Gen Word) (a : Accepted K)
+      → assign K S s c g (slice_get s.candidates (place_in (numbers s.trials) c.number)) ≡ Some a → Assigned N s c a
   unfolding assign
-  assigned S N s v sz c g a e = go (get_elem? s.candidates (place_in (numbers s.trials) c.number)) refl e
+  assigned S N s v sz c g a e = go (slice_get s.candidates (place_in (numbers s.trials) c.number)) refl e
     where
       w : Running K S N s
       w = v.after N sz
@@ -126,8 +126,8 @@ module _ (K : Kernel) (L : Laws K) where
       moved : length (move (length s.dims) s.trials c.number) ≡ max (length s.trials) (suc (place_in (numbers s.trials) c.number))
       moved = move-length (length s.dims) s.trials c.number
 
-      go : (o : Option Candidate) → get_elem? s.candidates (place_in (numbers s.trials) c.number) ≡ o → assign K S s c g o ≡ some a → Assigned N s c a
-      go (some y) x z =
+      go : (o : Option Candidate) → slice_get s.candidates (place_in (numbers s.trials) c.number) ≡ o → assign K S s c g o ≡ Some a → Assigned N s c a
+      go (Some y) x z =
           record {
             cs = s.candidates;
             y = y;
@@ -138,7 +138,7 @@ module _ (K : Kernel) (L : Laws K) where
             kept = λ i b. refl;
             fit = w.fit;
           }
-      go none x z =
+      go None x z =
           -- a new extra: its place is the candidates' end
           let end : place_in (numbers s.trials) c.number ≡ length s.candidates = omega (arith, past_end s.candidates (place_in (numbers s.trials) c.number) x, w.candidates, small) in
           let p = bind-some (extra S s.dims g) _ a z in
@@ -147,7 +147,7 @@ module _ (K : Kernel) (L : Laws K) where
             y = p.0.out;
             gen = p.0.gen;
             is = sym (some_inj p.2);
-            at = ap (get_elem? (s.candidates ++ (p.0.out ∷ []))) end ∙ snoc_new s.candidates p.0.out;
+            at = ap (slice_get (s.candidates ++ (p.0.out ∷ []))) end ∙ snoc_new s.candidates p.0.out;
             many = omega (arith, snoc-length s.candidates p.0.out, end, w.candidates, small, moved);
             kept = λ i b. snoc_old s.candidates p.0.out i (omega (arith, w.candidates));
             fit = all_snoc (Fits s.dims) s.candidates p.0.out w.fit (extra_fits S s.dims g p.0 v.dims_pass p.1);

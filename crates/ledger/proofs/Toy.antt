@@ -1,11 +1,11 @@
 -- A small kernel that meets the laws, so that demand 3 is not said of nothing: candidates, settings and the generator's word are numbers.
+use Rattle.std.specs.Prelude.{Option, Some, None}
 use Rattle.ledger.specs.Kernel.{Gen, Made, Parent, Kernel, Laws}
 use Rattle.ledger.proofs.Lists.{none≢some, some_inj, length-map}
 use mathlib.Core.Path.{◌≡◌, refl, sym, ap, ◌∙◌}
 use mathlib.Core.Logic.{◌≢◌}
 use mathlib.Core.Bool.{Bool, true, false, cond, true≢false}
 use mathlib.Core.List.{List, [], ◌∷◌, map}
-use mathlib.Core.Option.{Option, none, some}
 use Prim.Native.Nat.{ℕ, zero, suc, ◌+◌, ◌*◌, max}
 use native.Mathlib.Omega.{arith}
 use lib.Dec.{eqb}
@@ -40,7 +40,7 @@ abbrev pub later : List (Parent ℕ) → List ℕ
 later = map (λ (p : Parent ℕ). p.candidate + 100)
 
 -- what came through a test
-pub came : (b : Bool) (ys : List ℕ) (g : Gen ℕ) (m : Made ℕ (List ℕ)) → cond {A = Option (Made ℕ (List ℕ))} b none (some (record { out = ys; gen = g })) ≡ some m → m.out ≡ ys
+pub came : (b : Bool) (ys : List ℕ) (g : Gen ℕ) (m : Made ℕ (List ℕ)) → cond {A = Option (Made ℕ (List ℕ))} b None (Some (record { out = ys; gen = g })) ≡ Some m → m.out ≡ ys
 came true ys g m e = absurd (none≢some e)
 came false ys g m e = ap (λ (x : Made ℕ (List ℕ)). x.out) (sym (some_inj e))
 
@@ -56,12 +56,12 @@ toy =
       Word = ℕ;
       Entry = Entry;
       seed = λ S. 7;
-      judged = λ d. elim d [ zero ↦ some 7 | suc k ↦ none ];
+      judged = λ d. elim d [ zero ↦ Some 7 | suc k ↦ None ];
       size_of = λ S ds. max 4 S;
       random = λ d g. record { out = d; gen = record { word = suc g.word; draws = suc g.draws } };
-      firsts = λ S ds n g. some (record { out = from g.word n; gen = record { word = n + g.word; draws = n + g.draws } });
-      extra = λ S ds g. some (record { out = g.word; gen = record { word = suc g.word; draws = suc g.draws } });
-      nexts = λ S ds ps b g. cond (eqb b 3) none (some (record { out = later ps; gen = g }));
+      firsts = λ S ds n g. Some (record { out = from g.word n; gen = record { word = n + g.word; draws = n + g.draws } });
+      extra = λ S ds g. Some (record { out = g.word; gen = record { word = suc g.word; draws = suc g.draws } });
+      nexts = λ S ds ps b g. cond (eqb b 3) None (Some (record { out = later ps; gen = g }));
       decode = λ ds k y. y * 10 + k;
       number_of = λ e. e.number;
       value_of = λ e. e.value;

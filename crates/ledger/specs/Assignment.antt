@@ -3,8 +3,7 @@ use Rattle.ledger.specs.Words.{◌>>=◌}
 use Rattle.ledger.specs.Kernel.{Gen, Made, Kernel}
 use Rattle.ledger.specs.Call.{Call}
 use Rattle.ledger.specs.State.{Trial, State}
-use Rattle.std.specs.Prelude.{Bool, true, false, cond, List, [], ◌∷◌, ◌++◌, ℕ, zero, suc, min, ltb, eqb, length}
-use Rattle.std.proofs.Math.Option.{Option, none, some}
+use Rattle.std.specs.Prelude.{Bool, true, false, cond, List, [], ◌∷◌, ◌++◌, ℕ, zero, suc, min, ltb, eqb, length, Option, Some, None}
 
 -- ---- the open trials
 
@@ -64,7 +63,7 @@ module _ (K : Kernel) where
   -- By the candidate at the trial's place. Where there is none, N trials have theirs and this one is a new EXTRA: "After N trials each extra gets a random
   -- candidate and never competes."
   unfoldable pub assign : Setup → State K → Call K → Gen Word → Option Candidate → Option Accepted
-  assign S s c g (some y) = some (serve s c s.candidates y g)
-  assign S s c g none = do
+  assign S s c g (Some y) = Some (serve s c s.candidates y g)
+  assign S s c g None = do
     m ← extra S s.dims g
-    some (serve s c (s.candidates ++ (m.out ∷ [])) m.out m.gen)
+    Some (serve s c (s.candidates ++ (m.out ∷ [])) m.out m.gen)

@@ -3,8 +3,7 @@
 use Rattle.ledger.specs.Words.{◌>>=◌}
 use Rattle.ledger.specs.Kernel.{Gen, Made, Parent, Kernel}
 use Rattle.ledger.specs.State.{cap, Slots, State, values}
-use Rattle.std.specs.Prelude.{Bool, true, false, ◌&&◌, cond, List, [], ◌∷◌, ℕ, zero, suc, min, leb, eqb, length, take, get_or, Float}
-use Rattle.std.proofs.Math.Option.{Option, none, some}
+use Rattle.std.specs.Prelude.{Bool, true, false, ◌&&◌, cond, List, [], ◌∷◌, ℕ, zero, suc, min, leb, eqb, length, take, get_or, Float, Option, Some, None}
 use Rattle.std.specs.Float.{inf}
 use Rattle.std.specs.Float.Ieee.{le, lt}
 
@@ -48,20 +47,20 @@ module _ (K : Kernel) where
   -- a trial's value in a history, read from left to right: "If a number stands twice, its last entry counts"
   unfoldable pub scan : List Entry → ℕ → Option Float → Option Float
   scan [] n found = found
-  scan (e ∷ es) n found = scan es n (cond (eqb (number_of e) n) (some (value_of e)) found)
+  scan (e ∷ es) n found = scan es n (cond (eqb (number_of e) n) (Some (value_of e)) found)
 
   -- the values of these trials in their order, if the history has each
   unfoldable pub results_of : List Entry → List ℕ → Option (List Float)
-  results_of h [] = some []
+  results_of h [] = Some []
   results_of h (n ∷ ns) = do
-    v ← scan h n none
+    v ← scan h n None
     vs ← results_of h ns
-    some (v ∷ vs)
+    Some (v ∷ vs)
 
   -- by N, the open trials' numbers and the history: the counted results, if the call closes a generation ("at least N trials are assigned and its history has
   -- the first N"). "The value there of the i-th is the counted result of slot i."
   unfoldable pub counted : ℕ → List ℕ → List Entry → Option (List Float)
-  counted N ns h = cond (leb N (length ns)) (results_of h (take N ns)) none
+  counted N ns h = cond (leb N (length ns)) (results_of h (take N ns)) None
 
   -- ---- the slots after it
 
@@ -98,8 +97,8 @@ module _ (K : Kernel) where
 
   -- counted results close the generation; without them nothing happens
   unfoldable pub close : Setup → State K → Gen Word → Option (List Float) → Option (Made Word (State K))
-  close S s g none = some (record { out = s; gen = g })
-  close S s g (some row) = do
+  close S s g None = Some (record { out = s; gen = g })
+  close S s g (Some row) = do
     let o = settle s.slots s.candidates row
     m ← nexts S s.dims o.parents o.best g
-    some (record { out = reopen s o m.out; gen = m.gen })
+    Some (record { out = reopen s o m.out; gen = m.gen })

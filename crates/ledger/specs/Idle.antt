@@ -2,8 +2,7 @@
 -- A slot holds the least of the results counted for it. So that value becomes smaller exactly where a generation counts a result smaller than all before.
 use Rattle.ledger.specs.Words.{all}
 use Rattle.ledger.specs.Ledger.{Generation, result_in}
-use Rattle.std.specs.Prelude.{◌≡◌, Bool, false, ◌||◌, cond, List, [], ◌∷◌, ◌++◌, reverse, ℕ, suc, ◌+◌, ◌≤◌, ◌<◌, T, length, Float}
-use Rattle.std.proofs.Math.Option.{some}
+use Rattle.std.specs.Prelude.{◌≡◌, Bool, false, ◌||◌, cond, List, [], ◌∷◌, ◌++◌, reverse, ℕ, suc, ◌+◌, ◌≤◌, ◌<◌, T, length, Float, Some}
 use Rattle.std.specs.Float.Ieee.{lt}
 
 -- ---- as a number, computed from the counted results
@@ -33,8 +32,8 @@ idle_on gs = idle_since (reverse gs)
 pub record Lowered (gs : List Generation) (g : ℕ) : Type 0 where
   pub slot : ℕ
   pub value : Float
-  pub counted : result_in gs g slot ≡ some value
-  pub smaller : (h i : ℕ) (w : Float) → h < g → result_in gs h i ≡ some w → T (lt value w)
+  pub counted : result_in gs g slot ≡ Some value
+  pub smaller : (h i : ℕ) (w : Float) → h < g → result_in gs h i ≡ Some w → T (lt value w)
 
 -- n generations have closed since one last did: none of the last n did, and the one before them did, if there is one
 pub record IdleFor (gs : List Generation) (n : ℕ) : Type 0 where

@@ -1,19 +1,17 @@
 -- The sample call: step 1, the refusals in their order, and what comes of a call. This is demand 2's definition, but for the kernel.
-use Rattle.ledger.specs.Words.{or_else, ◌>>=◌, refuse_if, is_none, has}
+use Rattle.ledger.specs.Words.{or_else, ◌>>=◌, refuse_if, has}
 use Rattle.ledger.specs.Kernel.{Gen, Made, Kernel}
 use Rattle.ledger.specs.Call.{Call, call_refusal}
-use Rattle.ledger.specs.State.{numbers, State, start_gen, given, Result, refuse}
+use Rattle.ledger.specs.State.{numbers, State, start_gen, given, Returned, refuse}
 use Rattle.ledger.specs.Closing.{counted, close}
 use Rattle.ledger.specs.Assignment.{place_in, Accepted, assign}
 use Rattle.ledger.specs.Soundness.{sound_test}
-use Rattle.std.specs.Prelude.{Bool, true, false, not, ◌&&◌, cond, List, [], ◌∷◌, ◌++◌, ℕ, ◌+◌, leb, eqb, length}
-use Rattle.std.proofs.Math.Option.{Option, none, some}
-use Rattle.std.proofs.Math.ListN.{get_elem?}
+use Rattle.std.specs.Prelude.{Bool, true, false, not, ◌&&◌, cond, List, [], ◌∷◌, ◌++◌, ℕ, ◌+◌, leb, eqb, length, Option, Some, None, is_none, slice_get}
 
 -- before discovery ends, by the first trial's number: the call is of discovery, since it names the first trial or is that trial's
 abbrev pub discovers : Option ℕ → ℕ → Bool
-discovers none n = true
-discovers (some t) n = eqb t n
+discovers None n = true
+discovers (Some t) n = eqb t n
 
 module _ (K : Kernel) where
   open K use {Setup, Setting, Candidate, Word, size_of, random, firsts}
@@ -22,7 +20,7 @@ module _ (K : Kernel) where
   unfoldable pub sampling : Setup → ℕ → State K → Call K → Gen Word → Option (Accepted K)
   sampling S N s c g = do
     m ← close K S s g (counted K N (numbers s.trials) c.history)
-    assign K S m.out c m.gen (get_elem? m.out.candidates (place_in (numbers m.out.trials) c.number))
+    assign K S m.out c m.gen (slice_get m.out.candidates (place_in (numbers m.out.trials) c.number))
 
   -- ---- step 1: discovery
 
@@ -35,9 +33,9 @@ module _ (K : Kernel) where
         state =
             record {
               word = m.gen.word;
-              first = some c.number;
+              first = Some c.number;
               dims = s.dims ++ (c.distribution ∷ []);
-              size = none;
+              size = None;
               candidates = s.candidates;
               trials = s.trials;
               slots = s.slots;
@@ -46,11 +44,11 @@ module _ (K : Kernel) where
 
   -- discovery has ended: N is fixed, and there are candidates
   abbrev pub begin : State K → ℕ → List Candidate → State K
-  begin s N cs = record { word = s.word; first = s.first; dims = s.dims; size = some N; candidates = cs; trials = s.trials; slots = s.slots }
+  begin s N cs = record { word = s.word; first = s.first; dims = s.dims; size = Some N; candidates = cs; trials = s.trials; slots = s.slots }
 
   -- by whether the call is of discovery: "A call with another trial number fixes N, fills N random candidates and is then served as below."
   unfoldable pub discovery : Setup → Bool → State K → Call K → Option (Accepted K)
-  discovery S true s c = some (discover s c (random c.distribution (start_gen K s)))
+  discovery S true s c = Some (discover s c (random c.distribution (start_gen K s)))
   discovery S false s c = do
     let N = size_of S s.dims
     m ← firsts S s.dims N (start_gen K s)
@@ -60,27 +58,27 @@ module _ (K : Kernel) where
 
   -- 9, before discovery ends: "a 17th dimension of the first trial"; 10, after it: "no generation closes, the trial has no candidate, 64 extras given"
   unfoldable pub state_refusal : Option ℕ → State K → Call K → Option ℕ
-  state_refusal none s c = refuse_if (discovers s.first c.number && leb 16 (length s.dims)) 9
-  state_refusal (some N) s c =
+  state_refusal None s c = refuse_if (discovers s.first c.number && leb 16 (length s.dims)) 9
+  state_refusal (Some N) s c =
       refuse_if (is_none (counted K N (numbers s.trials) c.history) && (not (has (numbers s.trials) c.number) && leb (N + 64) (length s.trials))) 10
 
   -- what the call makes if 4 to 10 don't refuse it, by N; `none` is refusal 11, "a new candidate's entry is NaN"
   unfoldable pub accept : Setup → Option ℕ → State K → Call K → Option (Accepted K)
-  accept S none s c = discovery S (discovers s.first c.number) s c
-  accept S (some N) s c = sampling S N s c (start_gen K s)
+  accept S None s c = discovery S (discovers s.first c.number) s c
+  accept S (Some N) s c = sampling S N s c (start_gen K s)
 
   -- by the first of 4 to 10, and by what the call makes
-  abbrev pub outcome : State K → Option ℕ → Option (Accepted K) → Result K (State K)
-  outcome s (some r) o = refuse K r s
-  outcome s none none = refuse K 11 s
-  outcome s none (some a) = record { answer = given a.setting; draws = a.draws; state = a.state }
+  abbrev pub outcome : State K → Option ℕ → Option (Accepted K) → Returned K (State K)
+  outcome s (Some r) o = refuse K r s
+  outcome s None None = refuse K 11 s
+  outcome s None (Some a) = record { answer = given a.setting; draws = a.draws; state = a.state }
 
   -- a sample call on a sound state
-  unfoldable pub step : Setup → State K → Call K → Result K (State K)
+  unfoldable pub step : Setup → State K → Call K → Returned K (State K)
   step S s c = outcome s (or_else (call_refusal K c) (state_refusal s.size s c)) (accept S s.size s c)
 
   -- 0: "sample or look: the state isn't sound". The whole sample call:
-  unfoldable pub sample : Setup → State K → Call K → Result K (State K)
+  unfoldable pub sample : Setup → State K → Call K → Returned K (State K)
   sample S s c = cond (sound_test K S s) (step S s c) (refuse K 0 s)
 
   -- whether 11 is for the call, if no other is: what the ledger is told of "what demand 2's definition builds from the same calls"

@@ -1,7 +1,7 @@
 -- What demand 3 is said of: a sampler, right or wrong; and when one meets demand 2's definition, so that the demand is proved of it.
 use Rattle.ledger.specs.Kernel.{Kernel}
 use Rattle.ledger.specs.Call.{Call}
-use Rattle.ledger.specs.State.{State, fresh, Result}
+use Rattle.ledger.specs.State.{State, fresh, Returned}
 use Rattle.ledger.specs.Sample.{sample}
 use Rattle.std.specs.Prelude.{◌≡◌, List, [], ◌∷◌}
 
@@ -13,17 +13,17 @@ module _ (K : Kernel) where
     pub Kept : Type 0
     pub view : Kept → State K
     pub new : Kept
-    pub call : Kept → Call K → Result K Kept
+    pub call : Kept → Call K → Returned K Kept
 
   -- demand 2's definition is one
   abbrev pub definition : Setup → Sampler
   definition S = record { Kept = State K; view = λ s. s; new = fresh K S; call = sample K S }
 
   -- what a call returned, with the state as its view; and what a list of calls returns from a state on
-  abbrev pub viewed : (X : Sampler) → Result K X.Kept → Result K (State K)
+  abbrev pub viewed : (X : Sampler) → Returned K X.Kept → Returned K (State K)
   viewed X r = record { answer = r.answer; draws = r.draws; state = X.view r.state }
 
-  unfoldable pub returns_from : (X : Sampler) → X.Kept → List (Call K) → List (Result K (State K))
+  unfoldable pub returns_from : (X : Sampler) → X.Kept → List (Call K) → List (Returned K (State K))
   returns_from X x [] = []
   returns_from X x (c ∷ cs) = viewed X (X.call x c) ∷ returns_from X (X.call x c).state cs
 

@@ -1,12 +1,11 @@
 -- When a state is sound: document 01's "It is sound when: ..", clause by clause, as a record of facts and as the test that refusal 0 reads.
 -- Two of its clauses are about the state as a program keeps it, and are judged there: "the set-up passes 1 to 3" and "unused places are as in a fresh state".
-use Rattle.ledger.specs.Words.{is_some, is_none, All, all, every, is_empty, Differ, differing}
+use Rattle.ledger.specs.Words.{All, all, every, is_empty, Differ, differing}
 use Rattle.ledger.specs.Kernel.{Parent, Kernel}
 use Rattle.ledger.specs.State.{Trial, numbers, cap, State, values, no_slots}
 use Rattle.ledger.specs.Closing.{best_of}
-use Rattle.std.specs.Prelude.{◌≡◌, ◌≢◌, ◌↔◌, Bool, true, false, cond, List, [], ◌∷◌, ℕ, ◌+◌, ◌≤◌, max, leb, eqb, length, Float}
+use Rattle.std.specs.Prelude.{◌≡◌, ◌≢◌, ◌↔◌, Bool, true, false, cond, List, [], ◌∷◌, ℕ, ◌+◌, ◌≤◌, max, leb, eqb, length, Float, Option, Some, None, IsSome, is_some, is_none}
 use Rattle.std.specs.Bool.{beq}
-use Rattle.std.proofs.Math.Option.{Option, none, some, IsSome}
 use Rattle.std.specs.Float.{nan, inf, fin}
 
 abbrev pub is_number : Float → Bool
@@ -59,11 +58,11 @@ module _ (K : Kernel) where
 
   pub record Sound (S : Setup) (s : State K) : Type 0 where
     -- "every dimension [passes] 4 to 7"
-    pub dims_pass : All (λ d. judged d ≡ none) s.dims
+    pub dims_pass : All (λ d. judged d ≡ None) s.dims
     -- "counts keep the bounds below": "at most 16 dimensions"
     pub dims_few : length s.dims ≤ 16
-    pub before : s.size ≡ none → Discovering s
-    pub after : (N : ℕ) → s.size ≡ some N → Running S N s
+    pub before : s.size ≡ None → Discovering s
+    pub after : (N : ℕ) → s.size ≡ Some N → Running S N s
 
   -- ---- as a test, in the same order
 
@@ -97,8 +96,8 @@ module _ (K : Kernel) where
       ∷ []
 
   abbrev pub phase_test : Setup → Option ℕ → State K → Bool
-  phase_test S none s = every (discovering_tests s)
-  phase_test S (some N) s = every (running_tests S N s)
+  phase_test S None s = every (discovering_tests s)
+  phase_test S (Some N) s = every (running_tests S N s)
 
   abbrev pub sound_tests : Setup → State K → List Bool
   sound_tests S s = all (λ d. is_none (judged d)) s.dims ∷ leb (length s.dims) 16 ∷ phase_test S s.size s ∷ []

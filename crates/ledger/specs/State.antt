@@ -1,7 +1,6 @@
 -- The sampler's state over plain lists, and what a sample call returns. The set-up stands beside the state: every definition takes both.
 use Rattle.ledger.specs.Kernel.{Gen, Parent, Kernel}
-use Rattle.std.specs.Prelude.{List, [], map, ℕ, Float}
-use Rattle.std.proofs.Math.Option.{Option, none}
+use Rattle.std.specs.Prelude.{List, [], map, ℕ, Float, Option, None}
 
 -- An OPEN TRIAL, of the open generation: its number, and its next place, the dimension that its next call gives.
 pub record Trial : Type 0 where
@@ -44,7 +43,7 @@ module _ (K : Kernel) where
 
   -- "Fresh is what an accepted set-up returns"
   unfoldable pub fresh : Setup → State
-  fresh S = record { word = seed S; first = none; dims = []; size = none; candidates = []; trials = []; slots = no_slots }
+  fresh S = record { word = seed S; first = None; dims = []; size = None; candidates = []; trials = []; slots = no_slots }
 
   -- the generator as a call finds it
   abbrev pub start_gen : State → Gen Word
@@ -58,11 +57,11 @@ module _ (K : Kernel) where
     given : Setting → Answer
 
   -- the answer, how many draws were made, and the state after the call, in whatever form the sampler keeps its states
-  pub record Result (Kept : Type 0) : Type 0 where
+  pub record Returned (Kept : Type 0) : Type 0 where
     pub answer : Answer
     pub draws : ℕ
     pub state : Kept
 
   -- Demand 1: a refusal "has no setting, counts zero draws and hands back the state that came in, generator word included".
-  abbrev pub refuse : {Kept : Type 0} → ℕ → Kept → Result Kept
+  abbrev pub refuse : {Kept : Type 0} → ℕ → Kept → Returned Kept
   refuse r s = record { answer = refused r; draws = 0; state = s }
