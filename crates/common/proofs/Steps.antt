@@ -1,123 +1,108 @@
--- k × step from a place: the sign of k and that of the step say whether it goes up or down, and past the first or the last place it stops.
-use Rattle.std.proofs.Common.{◌≡◌, ℕ, zero, suc, ◌+◌, ◌-◌, ◌*◌, ◌^◌, ◌<◌, ◌≤◌, min, Bool, true, false, cond, not, ltb, leb, ℤ, pos, negsuc, ◌+ℤ◌, ◌*ℤ◌, neg_ℤ, sym, refl, ap, ◌∙◌, mul-zero, zero-mul, mul-one, arith, ltb-false, ltb-true, lt-ltb, le-leb, leb-false, leb-true}
-use native.Mathlib.Nat.{min-eq_left}
-use lib.Signed.{mag}
+-- from + k × step, clamped: in 128 bits no such sum is out of range, and where k is past 64 bits it may be cut there, since the sum is past low or high either way.
+use Rattle.std.proofs.Common.{◌≡◌, ℕ, zero, suc, ◌-◌, ◌*◌, ◌^◌, ◌≤◌, min, Bool, true, false, ltb, ℤ, pos, negsuc, ◌+ℤ◌, ◌-ℤ◌, ◌*ℤ◌, neg_ℤ, unsigned_abs, ◌≤ℤ◌, sym, refl, ap, ◌∙◌, mul-zero, arith, w64, SFits, to_z, of_z, ltb-false, ltb-true}
+use Rattle.std.proofs.Math.Nat.{mul-le-mul}
+use Rattle.std.proofs.lemmas.Int.{ints, to_z-of_z, unsigned_abs-mul, fits_signed_from_abs}
+use Rattle.std.specs.Int.{w128}
 use lib.Ieee.{Float, binary64, lt, of_bits}
-use borrow.Author.Tests.{lt-leb}
 use Rattle.rounding.specs.Round.{whole_size, whole_z}
 use Rattle.rounding.proofs.Wholes.{above_zero, not-above}
-use Rattle.common.specs.Places.{place_of, at_place, last_place}
+use Rattle.common.specs.FromInternal.{clamp_z}
 
--- p, or -p
-abbrev pub signed : Bool → ℕ → ℤ
-signed up p = cond up (pos p) (neg_ℤ (pos p))
+abbrev pub most : ℕ
+most = 2 ^ 64 - 1
 
--- ---- sums
+-- z, cut at 64 bits and a sign
+abbrev pub cut : ℤ → ℤ
+cut z = clamp_z z (neg_ℤ (pos most)) (pos most)
 
-pub place-add : (z : ℤ) (p : ℕ) → mag z < 2 ^ 63 → place_of (z +ℤ pos p) ≡ place_of z + p
-place-add (pos n) p h = omega arith
-place-add (negsuc n) p h = go (ltb p (suc n)) refl
-  where
-    go : (b : Bool) → ltb p (suc n) ≡ b → place_of (cond b (negsuc (suc n - suc p)) (pos (p - suc n))) ≡ 2 ^ 63 - suc n + p
-    go true e = let g = ltb-true p (suc n) e in omega arith
-    go false e = let g = ltb-false p (suc n) e in omega arith
+-- ---- q to the nearest whole number: its sign is that of q
 
-place-sub : (z : ℤ) (p : ℕ) → place_of (z +ℤ neg_ℤ (pos p)) ≡ place_of z - p
-place-sub (pos n) zero = omega arith
-place-sub (negsuc n) zero = go (ltb 0 (suc n)) refl
-  where
-    go : (b : Bool) → ltb 0 (suc n) ≡ b → place_of (cond b (negsuc (suc n - 1)) (pos (0 - suc n))) ≡ 2 ^ 63 - suc n - 0
-    go true e = omega arith
-    go false e = let g = ltb-false 0 (suc n) e in absurd (omega arith)
-place-sub (pos n) (suc j) = go (ltb n (suc j)) refl
-  where
-    go : (b : Bool) → ltb n (suc j) ≡ b → place_of (cond b (negsuc (suc j - suc n)) (pos (n - suc j))) ≡ 2 ^ 63 + n - suc j
-    go true e = let g = ltb-true n (suc j) e in omega arith
-    go false e = let g = ltb-false n (suc j) e in omega arith
-place-sub (negsuc n) (suc j) = omega arith
+pub whole-above : (q : Float) (n : ℕ) → lt (of_bits binary64 0) q ≡ true → n ≡ min (whole_size q) most → pos n ≡ cut (whole_z q)
+unfolding clamp_z
+whole-above q n e f = rw (f, above_zero q e) (grind arith)
 
--- ---- products
+pub whole-below : (q : Float) (n : ℕ) → lt (of_bits binary64 0) q ≡ false → n ≡ min (whole_size q) most → pos 0 -ℤ pos n ≡ cut (whole_z q)
+unfolding clamp_z
+whole-below q n e f = rw (f, not-above q e) (grind (arith, ints))
 
-neg-times : (p s : ℕ) → neg_ℤ (pos p) *ℤ pos s ≡ neg_ℤ (pos (p * s))
-neg-times zero s = ap pos (zero-mul s) ∙ ap (λ (n : ℕ). neg_ℤ (pos n)) (sym (zero-mul s))
-neg-times (suc p) s = refl
+pub ruleset wholes = (whole-above, whole-below)
 
-neg-times-neg : (p s : ℕ) → neg_ℤ (pos p) *ℤ negsuc s ≡ pos (p * suc s)
-neg-times-neg zero s = ap (λ (n : ℕ). neg_ℤ (pos n)) (zero-mul (suc s)) ∙ ap pos (sym (zero-mul (suc s)))
-neg-times-neg (suc p) s = refl
+-- ---- a number alone
 
-times-pos : (up : Bool) (p s : ℕ) → signed up p *ℤ pos s ≡ signed up (p * s)
-times-pos true p s = refl
-times-pos false p s = neg-times p s
+pub unstepped : (z low high : ℤ) → SFits w64 low → SFits w64 high → clamp_z z low high ≡ clamp_z (cut z) low high
+unfolding clamp_z
+unstepped z low high l h = grind (arith, ints)
 
-times-neg : (up : Bool) (p s : ℕ) → signed up p *ℤ negsuc s ≡ signed (not up) (p * suc s)
-times-neg true p s = refl
-times-neg false p s = neg-times-neg p s
+-- ---- the sum fits, so the machine reads it back as it is
 
-pub at-upper : (s : ℕ) → 2 ^ 63 ≤ s → at_place s ≡ pos (s - 2 ^ 63)
-at-upper s h = ap (λ (b : Bool). cond b (pos (s - 2 ^ 63)) (negsuc (2 ^ 63 - suc s))) (le-leb (2 ^ 63) s h)
+product-size : (z step : ℤ) → SFits w64 step → unsigned_abs (cut z *ℤ step) ≤ most * 2 ^ 63
+unfolding clamp_z
+product-size z step s = rw (unsigned_abs-mul (cut z) step) (mul-le-mul {n₂ = most} {m₂ = 2 ^ 63} (grind (arith, ints)) (grind (arith, ints)))
 
-at-lower : (s : ℕ) → s < 2 ^ 63 → at_place s ≡ negsuc (2 ^ 63 - suc s)
-at-lower s h = ap (λ (b : Bool). cond b (pos (s - 2 ^ 63)) (negsuc (2 ^ 63 - suc s))) (lt-leb (2 ^ 63) s h)
+pub product-fits : (z step : ℤ) → SFits w64 step → SFits w128 (cut z *ℤ step)
+product-fits z step s = fits_signed_from_abs w128 _ (omega (arith, product-size z step s))
 
--- the sign of what q is rounded to is that of q
-whole-signed : (q : Float) → whole_z q ≡ signed (lt (of_bits binary64 0) q) (whole_size q)
-whole-signed q = go (lt (of_bits binary64 0) q) refl
-  where
-    go : (b : Bool) → lt (of_bits binary64 0) q ≡ b → whole_z q ≡ signed b (whole_size q)
-    go true e = above_zero q e
-    go false e = not-above q e
+pub sum-fits : (z from step : ℤ) → SFits w64 from → SFits w64 step → SFits w128 (from +ℤ cut z *ℤ step)
+sum-fits z from step f s = let p = product-size z step s in grind (arith, ints)
 
-module _ (q : Float) (s : ℕ) where
-  pub times-upper : 2 ^ 63 ≤ s → whole_z q *ℤ at_place s ≡ signed (lt (of_bits binary64 0) q) (whole_size q * (s - 2 ^ 63))
-  times-upper h = (λ i. whole-signed q i *ℤ at-upper s h i) ∙ times-pos (lt (of_bits binary64 0) q) (whole_size q) (s - 2 ^ 63)
+pub ruleset sums = (to_z-of_z, product-fits, sum-fits)
 
-  pub times-lower : s < 2 ^ 63 → whole_z q *ℤ at_place s ≡ signed (not (lt (of_bits binary64 0) q)) (whole_size q * (2 ^ 63 - s))
-  times-lower h =
-      (λ i. whole-signed q i *ℤ at-lower s h i)
-      ∙ times-neg (lt (of_bits binary64 0) q) (whole_size q) (2 ^ 63 - suc s)
-      ∙ ap (λ (n : ℕ). signed (not (lt (of_bits binary64 0) q)) (whole_size q * n)) (omega arith)
+sum-kept : (z from step : ℤ) → SFits w64 from → SFits w64 step → to_z w128 (of_z w128 (from +ℤ to_z w128 (of_z w128 (cut z *ℤ step)))) ≡ from +ℤ cut z *ℤ step
+sum-kept z from step f s = rw (to_z-of_z w128 _ (product-fits z step s), to_z-of_z w128 _ (sum-fits z from step f s)) refl
 
--- ---- where k is past the largest u64, it may as well be that: each is past what is left
+-- ---- the sum, clamped
 
-capped : (f : ℕ → ℕ) → ((p : ℕ) → last_place ≤ p → f p ≡ f last_place) → (k s : ℕ) → f (min k last_place * s) ≡ f (k * s)
-capped f flat k zero = ap f (mul-zero (min k last_place) ∙ sym (mul-zero k))
-capped f flat k (suc s) = go (leb k last_place) refl
-  where
-    more : (n : ℕ) → n ≤ n * suc s
-    more n = omega arith
+more : (n s : ℕ) → n ≤ n * suc s
+more n s = omega arith
 
-    go : (b : Bool) → leb k last_place ≡ b → f (min k last_place * suc s) ≡ f (k * suc s)
-    go true e = ap (λ (n : ℕ). f (n * suc s)) (min-eq_left (leb-true k last_place e))
-    go false e =
-        let g = leb-false k last_place e in
-        flat (min k last_place * suc s) (omega (arith, more (min k last_place))) ∙ sym (flat (k * suc s) (omega (arith, more k)))
+module _ (from low high : ℤ) (f : SFits w64 from) (l : SFits w64 low) (h : SFits w64 high) where
+  over : (z : ℤ) → pos (2 ^ 63 - 1) ≤ℤ z → clamp_z z low high ≡ high
+  unfolding clamp_z
+  over z o = grind (arith, ints)
 
--- ---- the place k × s up or down from n
+  under : (z : ℤ) → z ≤ℤ negsuc (2 ^ 63 - 1) → clamp_z z low high ≡ low
+  unfolding clamp_z
+  under z o = grind (arith, ints)
 
-back : (n : ℕ) → place_of (at_place n) ≡ n
-back n = go (leb (2 ^ 63) n) refl
-  where
-    go : (b : Bool) → leb (2 ^ 63) n ≡ b → place_of (cond b (pos (n - 2 ^ 63)) (negsuc (2 ^ 63 - suc n))) ≡ n
-    go true e = let g = leb-true (2 ^ 63) n e in omega arith
-    go false e = let g = leb-false (2 ^ 63) n e in omega arith
+  unmoved : (z : ℤ) → z ≡ pos 0 → clamp_z (from +ℤ z) low high ≡ clamp_z from low high
+  unmoved z e = ap (λ (y : ℤ). clamp_z y low high) (omega (arith, ints))
 
-small : (n : ℕ) → n ≤ last_place → mag (at_place n) < 2 ^ 63
-small n h = go (leb (2 ^ 63) n)
-  where
-    go : (b : Bool) → mag (cond b (pos (n - 2 ^ 63)) (negsuc (2 ^ 63 - suc n))) < 2 ^ 63
-    go true = omega arith
-    go false = omega arith
+  -- the same for each k that is cut, up or down: past the side to which it goes, or nowhere by a step of 0
+  far-up : ℤ → ℤ
+  far-up (pos zero) = clamp_z from low high
+  far-up (pos (suc s)) = high
+  far-up (negsuc s) = low
 
-pub moved-is : (up : Bool) (n k s : ℕ) → n ≤ last_place
-    → cond up (min (n + min k last_place * s) last_place) (n - min k last_place * s) ≡ min (place_of (at_place n +ℤ signed up (k * s))) last_place
-moved-is true n k s h =
-    capped (λ (p : ℕ). min (n + p) last_place) (λ p l. omega arith) k s ∙ ap (λ (p : ℕ). min p last_place) (sym (place-add (at_place n) (k * s) (small n h) ∙ ap (λ (p : ℕ). p + k * s) (back n)))
-moved-is false n k s h =
-    let e : place_of (at_place n +ℤ neg_ℤ (pos (k * s))) ≡ n - k * s = place-sub (at_place n) (k * s) ∙ ap (λ (p : ℕ). p - k * s) (back n) in
-    capped (λ (p : ℕ). n - p) (λ p l. omega arith) k s ∙ omega arith
+  far-down : ℤ → ℤ
+  far-down (pos zero) = clamp_z from low high
+  far-down (pos (suc s)) = low
+  far-down (negsuc s) = high
 
--- from 0 by steps of 1
-pub by_ones : (z : ℤ) → pos 0 +ℤ z *ℤ pos 1 ≡ z
-by_ones (pos n) = ap pos (omega arith)
-by_ones (negsuc n) = ap (λ (k : ℕ). pos 0 +ℤ neg_ℤ (pos k)) (mul-one (suc n)) ∙ simp (lt-ltb 0 (suc n) (omega arith)) (ap negsuc (omega arith))
+  up : (n : ℕ) (step : ℤ) → most ≤ n → clamp_z (from +ℤ pos n *ℤ step) low high ≡ far-up step
+  unfolding far-up
+  up n (pos zero) g = unmoved _ (ap pos (mul-zero n))
+  up n (pos (suc s)) g = over _ (grind (arith, ints, more n s))
+  up n (negsuc s) g = under _ (grind (arith, ints, more n s))
+
+  down : (n : ℕ) (step : ℤ) → most ≤ suc n → clamp_z (from +ℤ negsuc n *ℤ step) low high ≡ far-down step
+  unfolding far-down
+  down n (pos zero) g = unmoved _ (ap (λ (m : ℕ). neg_ℤ (pos m)) (mul-zero (suc n)))
+  down n (pos (suc s)) g = under _ (grind (arith, ints, more (suc n) s))
+  down n (negsuc s) g = over _ (grind (arith, ints, more (suc n) s))
+
+  cut-same : (z step : ℤ) → clamp_z (from +ℤ z *ℤ step) low high ≡ clamp_z (from +ℤ cut z *ℤ step) low high
+  unfolding clamp_z
+  cut-same (pos n) step = go (ltb most n) refl
+    where
+      go : (b : Bool) → ltb most n ≡ b → clamp_z (from +ℤ pos n *ℤ step) low high ≡ clamp_z (from +ℤ cut (pos n) *ℤ step) low high
+      go true t = let g = ltb-true most n t in let c : cut (pos n) ≡ pos most = grind (arith, ints) in rw c (up n step (omega arith) ∙ sym (up most step (omega arith)))
+      go false t = let g = ltb-false most n t in let c : cut (pos n) ≡ pos n = grind (arith, ints) in rw c
+  cut-same (negsuc n) step = go (ltb most (suc n)) refl
+    where
+      go : (b : Bool) → ltb most (suc n) ≡ b → clamp_z (from +ℤ negsuc n *ℤ step) low high ≡ clamp_z (from +ℤ cut (negsuc n) *ℤ step) low high
+      go true t = let g = ltb-true most (suc n) t in let c : cut (negsuc n) ≡ negsuc (most - 1) = grind (arith, ints) in rw c (down n step (omega arith) ∙ sym (down (most - 1) step (omega arith)))
+      go false t = let g = ltb-false most (suc n) t in let c : cut (negsuc n) ≡ negsuc n = grind (arith, ints) in rw c
+
+  -- what the code clamps
+  pub stepped : (z step : ℤ) → SFits w64 step → clamp_z (from +ℤ z *ℤ step) low high ≡ clamp_z (to_z w128 (of_z w128 (from +ℤ to_z w128 (of_z w128 (cut z *ℤ step))))) low high
+  stepped z step s = cut-same z step ∙ ap (λ (y : ℤ). clamp_z y low high) (sym (sum-kept z from step f s))

@@ -1,43 +1,44 @@
--- Whole steps from low to high: there are gap / step of them, and the last of them does not pass high.
-use Rattle.std.proofs.Common.{◌≡◌, ℕ, ◌+◌, ◌*◌, ◌/◌, ◌%◌, ◌^◌, ◌<◌, ◌≤◌, ℤ, pos, negsuc, ◌-ℤ◌, nat_abs, ◌≤ℤ◌, ◌<ℤ◌, sym, refl, ap, ◌∙◌, add-zero, mul-le-mul_right, mod-lt, div-lt_iff_lt-mul, div-add-mod', zero-add, arith, ltb→lt}
-use lib.Signed.{quot_z, pos-nat_abs}
+-- Whole steps from low to high: there are gap / step of them, so k × step lies in the gap for each drawn k.
+use Rattle.std.proofs.Common.{◌≡◌, ℕ, ◌+◌, ◌*◌, ◌/◌, ◌%◌, ◌^◌, ◌<◌, ◌≤◌, ℤ, pos, ◌-ℤ◌, ◌*ℤ◌, unsigned_abs, int_div, ◌≤ℤ◌, ◌<ℤ◌, ap, ◌∙◌, div-le_self, mul-le-mul_right, mod-lt, div-add-mod', zero-add, add-zero, arith, w64, SFits, to_z, of_z}
+use Rattle.std.proofs.lemmas.Int.{ints, to_z-of_z, quot_is, quot_fits}
 use Rattle.rng_util.specs.Draws.{i64_of}
-use Rattle.rng_util.proofs.Signed.{gap-le, gap-non_neg}
-
--- ---- in numbers from 0
-
-pub product : (n k s : ℕ) → k ≤ n / s → k * s ≤ n
-product n k s h =
-    let a : k * s ≤ n / s * s = mul-le-mul_right s h in
-    omega (arith, div-add-mod' n s)
-
-pub past : (n k s : ℕ) → 1 ≤ s → n / s < k → n < k * s
-past n k s p h = (div-lt_iff_lt-mul p).0 h
 
 -- `i64(0..=n)` is output mod (n + 1)
-pub from_zero : (output n : ℕ) → i64_of output (pos 0) (pos n) ≡ pos (output % (n + 1))
+from_zero : (output n : ℕ) → i64_of output (pos 0) (pos n) ≡ pos (output % (n + 1))
 from_zero output n = ap pos (zero-add (output % (n + 0 + 1)) ∙ ap (λ (m : ℕ). output % (m + 1)) (add-zero n))
 
-pub at_most : (output n : ℕ) → output % (n + 1) ≤ n
-at_most output n = let h = mod-lt output {m = n + 1} (omega arith) in omega arith
+product : (output n s : ℕ) → output % (n / s + 1) * s ≤ n
+product output n s =
+    let k : output % (n / s + 1) < n / s + 1 = mod-lt output {m = n / s + 1} (omega arith) in
+    let a : output % (n / s + 1) * s ≤ n / s * s = mul-le-mul_right s (omega arith) in
+    omega (arith, div-add-mod' n s)
 
--- ---- in integers
+-- what the code computes: the number of steps as the machine reads it back, and where k × step lies
+pub record Strides (low high step : ℤ) (output : ℕ) : Type 0 where
+  pub kept : to_z w64 (of_z w64 (int_div (to_z w64 (of_z w64 (to_z w64 (of_z w64 high) -ℤ to_z w64 (of_z w64 low)))) (to_z w64 (of_z w64 step)))) ≡ int_div (high -ℤ low) step
+  pub some : pos 0 ≤ℤ int_div (high -ℤ low) step
+  pub few : unsigned_abs (int_div (high -ℤ low) step) ≤ 2 ^ 54
+  pub up : pos 0 ≤ℤ (i64_of output (pos 0) (int_div (high -ℤ low) step) *ℤ step)
+  pub within : (i64_of output (pos 0) (int_div (high -ℤ low) step) *ℤ step) ≤ℤ (high -ℤ low)
 
-pub gap_is : {low high : ℤ} → low ≤ℤ high → high -ℤ low ≡ pos (nat_abs (high -ℤ low))
-gap_is {low} {high} o = sym (pos-nat_abs (high -ℤ low) (gap-non_neg low high o))
-
-pub gap-fits : (low high : ℤ) → nat_abs low ≤ 2 ^ 53 → nat_abs high ≤ 2 ^ 53 → nat_abs (high -ℤ low) ≤ 2 ^ 54
-gap-fits low high l h = omega (arith, gap-le high low)
-
-above-zero-is : (z : ℤ) → pos 0 <ℤ z → (z ≡ pos (nat_abs z)) × (1 ≤ nat_abs z)
-above-zero-is (pos n) h = (refl, ltb→lt 0 n h.lt)
-above-zero-is (negsuc n) h = absurd h.lt
-
-pub step_is : {step : ℤ} → pos 0 <ℤ step → step ≡ pos (nat_abs step)
-step_is {step} u = (above-zero-is step u).0
-
-pub step-from-1 : {step : ℤ} → pos 0 <ℤ step → 1 ≤ nat_abs step
-step-from-1 {step} u = (above-zero-is step u).1
-
-pub steps-are : {low high step : ℤ} → low ≤ℤ high → pos 0 <ℤ step → quot_z (high -ℤ low) step ≡ pos (nat_abs (high -ℤ low) / nat_abs step)
-steps-are o u = λ i. quot_z (gap_is o i) (step_is u i)
+pub strides : (low high step : ℤ) (output : ℕ) → SFits w64 step → (low ≤ℤ high) × (unsigned_abs low ≤ 2 ^ 53) × (unsigned_abs high ≤ 2 ^ 53) → pos 0 <ℤ step
+    → Strides low high step output
+strides low high step output f q u =
+    let n = unsigned_abs (high -ℤ low) in
+    let s = unsigned_abs step in
+    let l : SFits w64 low = record { sfits = grind (arith, ints) } in
+    let h : SFits w64 high = record { sfits = grind (arith, ints) } in
+    let g : SFits w64 (high -ℤ low) = grind (arith, ints) in
+    let gap-is : high -ℤ low ≡ pos n = grind (arith, ints) in
+    let step-is : step ≡ pos s = grind (arith, ints) in
+    let count : int_div (high -ℤ low) step ≡ pos (n / s) = λ i. int_div (gap-is i) (step-is i) in
+    let drawn : i64_of output (pos 0) (int_div (high -ℤ low) step) *ℤ step ≡ pos (output % (n / s + 1) * s) =
+    (λ i. i64_of output (pos 0) (count i) *ℤ step-is i) ∙ ap (λ (k : ℤ). k *ℤ pos s) (from_zero output (n / s)) in
+    let small : n ≤ 2 ^ 54 = grind (arith, ints) in
+    record {
+      kept = simp (to_z-of_z w64 low l, to_z-of_z w64 high h) (quot_is w64 (high -ℤ low) step g f (quot_fits w64 _ _ g u));
+      some = rw count (grind (arith, ints));
+      few = rw count (omega (arith, div-le_self n s));
+      up = rw drawn (grind (arith, ints));
+      within = rw (drawn, gap-is) (grind (arith, ints, product output n s));
+    }

@@ -1,13 +1,9 @@
 -- "`from_internal`, Float: with a step, k = round((v - low)/step), then low + k × step; then clamp. Int: with a step, k likewise,
 -- low + k × step, else round(v); then clamp" (document 01, "Mapping").
-use Rattle.std.specs.Prelude.{cond, ℤ, ◌+ℤ◌, ◌*ℤ◌, int_lt, Float}
+use Rattle.std.specs.Prelude.{cond, ℤ, ◌+ℤ◌, ◌*ℤ◌, int_lt, Float, Option, Some, None}
 use Rattle.std.specs.Float.{binary64}
 use Rattle.std.specs.Float.Ieee.{add, sub, mul, div, of_int}
-use Rattle.distribution.specs.declared.FloatStep.{FloatStep}
-use Rattle.distribution.specs.declared.FloatStep.TheVariants as F
 use Rattle.distribution.specs.declared.FloatDistribution.{FloatDistribution}
-use Rattle.distribution.specs.declared.IntStep.{IntStep}
-use Rattle.distribution.specs.declared.IntStep.TheVariants as I
 use Rattle.distribution.specs.declared.IntDistribution.{IntDistribution}
 use Rattle.distribution.specs.declared.Distribution.{Distribution}
 use Rattle.distribution.specs.declared.Distribution.TheVariants as D
@@ -19,10 +15,10 @@ use Rattle.rounding.specs.Clamp.{clamp_of}
 -- ---- Float: doubles, one rounding per operation, in the Rust's order
 
 -- "with a step, k = round((v - low)/step), then low + k × step"
-unfoldable pub on_step : FloatStep → Float → Float → Float
+unfoldable pub on_step : Option Float → Float → Float → Float
 unfolding round_away add sub mul div
-on_step F.Unset low v = v
-on_step (F.By step) low v = add binary64 low (mul binary64 (round_away (div binary64 (sub binary64 v low) step)) step)
+on_step None low v = v
+on_step (Some step) low v = add binary64 low (mul binary64 (round_away (div binary64 (sub binary64 v low) step)) step)
 
 -- "then clamp"
 unfoldable pub from_float : Float → FloatDistribution → Float
@@ -32,10 +28,10 @@ from_float v d = clamp_of (on_step d.step d.low v) d.low d.high
 -- ---- Int: k is rounded as a double, and from there on the numbers are exact
 
 -- "with a step, k likewise, low + k × step, else round(v)"
-unfoldable pub on_step_z : IntStep → ℤ → Float → ℤ
+unfoldable pub on_step_z : Option ℤ → ℤ → Float → ℤ
 unfolding whole_z sub div of_int
-on_step_z I.Unset low v = whole_z v
-on_step_z (I.By step) low v = low +ℤ whole_z (div binary64 (sub binary64 v (of_int binary64 low)) (of_int binary64 step)) *ℤ step
+on_step_z None low v = whole_z v
+on_step_z (Some step) low v = low +ℤ whole_z (div binary64 (sub binary64 v (of_int binary64 low)) (of_int binary64 step)) *ℤ step
 
 -- "Clamp gives low below low, high above high, else the value itself"
 unfoldable pub clamp_z : ℤ → ℤ → ℤ → ℤ

@@ -1,33 +1,28 @@
 -- "`sample_random`: Float without step `f64_range`; with step k = `i64(0..=n)`, n the floor of (high - low)/step, then low + k × step, not
 -- clamped; Int `i64(low..=high)` or low + k × step; Categorical `usize`" (document 01, "Mapping"). Each takes one draw's output.
-use Rattle.std.specs.Prelude.{ℕ, ℤ, pos, ◌+ℤ◌, ◌-ℤ◌, ◌*ℤ◌, int_div, Float}
+use Rattle.std.specs.Prelude.{ℕ, ℤ, pos, ◌+ℤ◌, ◌-ℤ◌, ◌*ℤ◌, int_div, Float, Option, Some, None}
 use Rattle.std.specs.Float.{binary64}
 use Rattle.std.specs.Float.Ieee.{add, sub, mul, div, of_int}
 use Rattle.rng_util.specs.Draws.{unit_of, usize_of, i64_of, range_of}
 use Rattle.rng_util.specs.declared.Gen.{Gen}
 use Rattle.rng_util.specs.Gen.{draw_of, Made, made}
-use Rattle.distribution.specs.declared.FloatStep.{FloatStep}
-use Rattle.distribution.specs.declared.FloatStep.TheVariants as F
-use Rattle.distribution.specs.declared.IntStep.{IntStep}
-use Rattle.distribution.specs.declared.IntStep.TheVariants as I
 use Rattle.distribution.specs.declared.Distribution.{Distribution}
 use Rattle.distribution.specs.declared.Distribution.TheVariants as D
 use Rattle.distribution.specs.declared.ParamValue.{ParamValue}
 use Rattle.distribution.specs.declared.ParamValue.TheVariants as P
 use Rattle.rounding.specs.Floor.{floor_of}
-use Rattle.common.specs.declared.RandomSetting.{RandomSetting}
 
 -- Float: in doubles, one rounding per operation, in the Rust's order
-unfoldable pub random_float : FloatStep → Float → Float → ℕ → Float
+unfoldable pub random_float : Option Float → Float → Float → ℕ → Float
 unfolding unit_of floor_of of_int add sub mul div
-random_float F.Unset low high output = range_of low high (unit_of output)
-random_float (F.By step) low high output =
+random_float None low high output = range_of low high (unit_of output)
+random_float (Some step) low high output =
     add binary64 low (mul binary64 (of_int binary64 (i64_of output (pos 0) (pos (floor_of (div binary64 (sub binary64 high low) step))))) step)
 
 -- Int: exact. With a step k = `i64(0..=n)`, n = (high - low) / step in whole numbers, as the Rust divides them.
-unfoldable pub random_int : IntStep → ℤ → ℤ → ℕ → ℤ
-random_int I.Unset low high output = i64_of output low high
-random_int (I.By step) low high output = low +ℤ i64_of output (pos 0) (int_div (high -ℤ low) step) *ℤ step
+unfoldable pub random_int : Option ℤ → ℤ → ℤ → ℕ → ℤ
+random_int None low high output = i64_of output low high
+random_int (Some step) low high output = low +ℤ i64_of output (pos 0) (int_div (high -ℤ low) step) *ℤ step
 
 -- the setting that one output gives
 unfoldable pub random_value : Distribution → ℕ → ParamValue
@@ -39,8 +34,4 @@ random_value (D.Categorical d) output = P.Categorical (usize_of output d.n_choic
 -- exactly one draw
 unfoldable pub random_setting : Distribution → Gen → Made ParamValue
 unfolding random_value draw_of
-random_setting d g = made (random_value d (draw_of g).output) (draw_of g).after
-
--- as the code hands it out
-abbrev pub random_rec : Made ParamValue → RandomSetting
-random_rec m = record { setting = m.out; after = m.after }
+random_setting d g = made (random_value d (draw_of g).out) (draw_of g).after

@@ -1,7 +1,6 @@
 -- "`to_internal` (4 to 7 judge the distribution, then 4 an Int setting over 2^53 in size; a Float as it is, whole number to double; 0 where
 -- kinds differ)" (document 01, "Sampler").
-use Rattle.std.specs.Prelude.{ℕ, Bool, false, cond, Float}
-use Rattle.std.proofs.Math.Option.{Option, none, some}
+use Rattle.std.specs.Prelude.{ℕ, Bool, false, cond, Float, Option, Some, None, Result, Ok, Err, ⊤}
 use Rattle.std.specs.Float.{binary64}
 use Rattle.std.specs.Float.Ieee.{of_int}
 use Rattle.distribution.specs.declared.Distribution.{Distribution}
@@ -9,13 +8,10 @@ use Rattle.distribution.specs.declared.Distribution.TheVariants as D
 use Rattle.distribution.specs.declared.ParamValue.{ParamValue}
 use Rattle.distribution.specs.declared.ParamValue.TheVariants as P
 use Rattle.distribution.specs.declared.Refusal.TheVariants.{Bounds}
-use Rattle.distribution.specs.declared.Verdict.{Verdict}
-use Rattle.distribution.specs.declared.Verdict.TheVariants as Judged
 use Rattle.distribution.specs.Refusals.{refusal_number}
 use Rattle.distribution.specs.Validate.{verdict_of, int_bound_fails, judged}
-use Rattle.common.specs.declared.Internal.{Internal}
-use Rattle.common.specs.declared.Internal.TheVariants as To
 use Rattle.common.specs.Bounds.{zero_f}
+use Rattle.distribution.specs.declared.Refusal.{Refusal}
 
 -- "an Int setting over 2^53 in size"
 unfoldable pub setting_fails : ParamValue → Bool
@@ -36,25 +32,25 @@ as_double (P.Int z) (D.Categorical d) = zero_f
 as_double (P.Categorical k) d = zero_f
 
 -- the refusals first, then the double
-abbrev pub internal_of : Verdict → ParamValue → Distribution → Internal
-internal_of (Judged.Refused r) value d = To.Refused r
-internal_of Judged.Valid value d = cond (setting_fails value) (To.Refused Bounds) (To.Value (as_double value d))
+abbrev pub internal_of : Result ⊤ Refusal → ParamValue → Distribution → Result Float Refusal
+internal_of (Err r) value d = Err r
+internal_of (Ok tt) value d = cond (setting_fails value) (Err Bounds) (Ok (as_double value d))
 
-unfoldable pub to_internal : ParamValue → Distribution → Internal
+unfoldable pub to_internal : ParamValue → Distribution → Result Float Refusal
 unfolding verdict_of setting_fails as_double
 to_internal value d = internal_of (verdict_of d) value d
 
 -- ---- the same in the table's numbers
 
 -- the number of the refusal, if the answer is one
-abbrev pub internal_refusal : Internal → Option ℕ
-internal_refusal (To.Value x) = none
-internal_refusal (To.Refused r) = some (refusal_number r)
+abbrev pub internal_refusal : Result Float Refusal → Option ℕ
+internal_refusal (Ok x) = None
+internal_refusal (Err r) = Some (refusal_number r)
 
 -- the distribution's number comes first; then 4, where the setting fails
 abbrev pub then_setting : Option ℕ → Bool → Option ℕ
-then_setting (some n) fails = some n
-then_setting none fails = cond fails (some 4) none
+then_setting (Some n) fails = Some n
+then_setting None fails = cond fails (Some 4) None
 
 -- "4 to 7 judge the distribution, then 4 an Int setting over 2^53 in size"
 unfoldable pub setting_refusal : ParamValue → Distribution → Option ℕ

@@ -7,39 +7,38 @@ ghost use Rattle.rounding.specs.Floor.{floor_of};
 ghost use Rattle.common.specs.FromInternal.{from_float};
 ghost use Rattle.common.specs.Random.{random_float};
 
-use distribution::{Distribution, FloatDistribution, FloatStep, Verdict};
+use distribution::{Distribution, FloatDistribution};
 
+#[tactic(auto, unfolding(crate::specs::FromInternal::from_float, crate::specs::FromInternal::on_step))]
 pub fn from_float(value: f64, d: FloatDistribution) -> f64
     ensures { result ≡ from_float value d }
 {
     let low = d.low;
-    let step = d.step;
-    match step {
-        FloatStep::Unset => rounding::clamp(value, low, d.high),
-        FloatStep::By(s) => {
-            let k = rounding::round((value - low) / s);
-            rounding::clamp(low + k * s, low, d.high)
-        }
-    }
+    let on_step = d.step.map_or(value, |s| {
+        let k = rounding::round((value - low) / s);
+        low + k * s
+    });
+    rounding::clamp(on_step, low, d.high)
 }
 
 // low + k × step, k the drawn number of steps.
+#[tactic(auto, unfolding(crate::specs::Random::random_float))]
 fn random_step(output: u64, low: f64, high: f64, step: f64) -> f64
     requires { floor_of (div binary64 (sub binary64 high low) step) < 2 ^ 32 }
-    ensures { result ≡ random_float (FloatStep.By step) low high output }
+    ensures { result ≡ random_float (Some step) low high output }
 {
     let n_steps = rounding::floor((high - low) / step);
     let k = rng_util::i64_between(output, 0, n_steps as i64);
     low + std::num::nearest_i64_to_f64(k) * step
 }
 
+#[tactic(auto, using(crate::proofs::Valid::float_few), unfolding(crate::specs::Random::random_float))]
 pub fn random_float(output: u64, d: FloatDistribution) -> f64
-    requires { verdict_of (Distribution.Float d) ≡ Verdict.Valid }
+    requires { verdict_of (Distribution.Float d) ≡ Ok tt }
     ensures { result ≡ random_float d.step d.low d.high output }
 {
-    let step = d.step;
-    match step {
-        FloatStep::Unset => rng_util::f64_range(d.low, d.high, rng_util::unit(output)),
-        FloatStep::By(s) => random_step(output, d.low, d.high, s),
+    match d.step {
+        None => rng_util::f64_range(d.low, d.high, rng_util::unit(output)),
+        Some(s) => random_step(output, d.low, d.high, s),
     }
 }

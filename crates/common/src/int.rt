@@ -1,41 +1,51 @@
-// An Int dimension: exact whole numbers, as places where they could leave the range of an i64.
-ghost use Rattle.std.specs.Prelude.{◌≡◌, ◌^◌, ◌≤◌, min, pos, ◌+ℤ◌, ◌*ℤ◌, ◌≤ℤ◌, ◌<ℤ◌, unsigned_abs};
+// An Int dimension: exact whole numbers.
+ghost use Rattle.std.specs.Prelude.{◌≡◌, ◌^◌, ◌≤◌, pos, neg_ℤ, ◌-◌, ◌+ℤ◌, ◌*ℤ◌, ◌≤ℤ◌, ◌<ℤ◌, unsigned_abs};
 ghost use Rattle.distribution.specs.Validate.{verdict_of};
 ghost use Rattle.rounding.specs.Round.{whole_z};
-ghost use Rattle.common.specs.Places.{place_of, at_place, last_place};
 ghost use Rattle.common.specs.FromInternal.{clamp_z, from_int};
 ghost use Rattle.common.specs.Random.{random_int};
 
-use super::places;
-use distribution::{Distribution, IntDistribution, IntStep, Verdict};
+use distribution::{Distribution, IntDistribution};
 
-// k × step from the place n, k the whole number nearest to q, and s the step's place; the first or the last place where that is past it.
-fn steps_from(n: u64, q: f64, s: u64) -> u64
-    ensures { result ≡ min (place_of (at_place n +ℤ whole_z q *ℤ at_place s)) last_place }
+// The whole number nearest to q, within ±(2^64 - 1).
+#[tactic(auto, using(crate::proofs::Steps::wholes))]
+fn whole(q: f64) -> i128
+    ensures { result ≡ clamp_z (whole_z q) (neg_ℤ (pos (2 ^ 64 - 1))) (pos (2 ^ 64 - 1)) }
 {
-    let k = rounding::whole_size(q);
-    if s >= places::ZERO {
-        places::moved(n, q > 0.0, k, s - places::ZERO)
+    let size = i128::from(rounding::whole_size(q));
+    if q > 0.0 { size } else { -size }
+}
+
+// low below low, high above high, else the number itself.
+#[tactic(auto, unfolding(crate::specs::FromInternal::clamp_z))]
+fn clamp(x: i128, low: i64, high: i64) -> i64
+    ensures { result ≡ clamp_z x low high }
+{
+    if x < i128::from(low) {
+        low
+    } else if x > i128::from(high) {
+        high
     } else {
-        places::moved(n, !(q > 0.0), k, places::ZERO - s)
+        x as i64
     }
 }
 
-// from + k × step, k the whole number nearest to q, clamped.
+// from + k × step, k the whole number nearest to q, clamped. In 128 bits no sum leaves the range, and where k is past 64 bits it is past
+// low or high.
+#[tactic(auto, using(crate::proofs::Steps::sums))]
 fn stepped(from: i64, q: f64, step: i64, low: i64, high: i64) -> i64
     ensures { result ≡ clamp_z (from +ℤ whole_z q *ℤ step) low high }
 {
-    let n = steps_from(places::place(from), q, places::place(step));
-    places::at_place(places::between(n, places::place(low), places::place(high)))
+    clamp(i128::from(from) + whole(q) * i128::from(step), low, high)
 }
 
+#[tactic(auto, unfolding(crate::specs::FromInternal::from_int, crate::specs::FromInternal::on_step_z))]
 pub fn from_int(value: f64, d: IntDistribution) -> i64
     ensures { result ≡ from_int value d }
 {
-    let step = d.step;
-    match step {
-        IntStep::Unset => stepped(0, value, 1, d.low, d.high),
-        IntStep::By(s) => {
+    match d.step {
+        None => clamp(whole(value), d.low, d.high),
+        Some(s) => {
             let low = std::num::nearest_i64_to_f64(d.low);
             let q = (value - low) / std::num::nearest_i64_to_f64(s);
             stepped(d.low, q, s, d.low, d.high)
@@ -47,20 +57,20 @@ pub fn from_int(value: f64, d: IntDistribution) -> i64
 fn random_step(output: u64, low: i64, high: i64, step: i64) -> i64
     requires low_le_high { (low ≤ℤ high) × (unsigned_abs low ≤ 2 ^ 53) × (unsigned_abs high ≤ 2 ^ 53) }
     requires pos_bound { pos 0 <ℤ step }
-    ensures { result ≡ random_int (IntStep.By step) low high output }
+    ensures { result ≡ random_int (Some step) low high output }
 {
     let n_steps = (high - low) / step;
     let k = rng_util::i64_between(output, 0, n_steps);
     low + k * step
 }
 
+#[tactic(auto, using(crate::proofs::Valid::ints_valid), unfolding(crate::specs::Random::random_int))]
 pub fn random_int(output: u64, d: IntDistribution) -> i64
-    requires { verdict_of (Distribution.Int d) ≡ Verdict.Valid }
+    requires { verdict_of (Distribution.Int d) ≡ Ok tt }
     ensures { result ≡ random_int d.step d.low d.high output }
 {
-    let step = d.step;
-    match step {
-        IntStep::Unset => rng_util::i64_between(output, d.low, d.high),
-        IntStep::By(s) => random_step(output, d.low, d.high, s),
+    match d.step {
+        None => rng_util::i64_between(output, d.low, d.high),
+        Some(s) => random_step(output, d.low, d.high, s),
     }
 }
