@@ -44,7 +44,7 @@ chosen (k ∷ ks) = some k + chosen ks
 
 choice-count : (k : ℕ) (g : Gen) → (random_choice k g).after.draws ≡ g.draws + some k
 unfolding random_choice draw_of
-choice-count k g = go (eqb k 0) 0 (usize_of (draw_of g).output k)
+choice-count k g = go (eqb k 0) 0 (usize_of (draw_of g).out k)
   where
     go : (t : Bool) (a b : ℕ) → (cond t (made a g) (made b (draw_of g).after)).after.draws ≡ g.draws + cond t 0 1
     go true a b = omega arith

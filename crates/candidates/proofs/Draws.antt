@@ -1,26 +1,21 @@
--- How many draws are made at most: one for an entry, one for a choice, n + D for a candidate.
+-- How many draws are made at most: one for an entry, one for a choice, n + D for a candidate. And the candidate of what was drawn.
 use Prim.Native.Nat.{ℕ, ◌+◌, ◌≤◌}
 use native.Mathlib.Omega.{arith}
-use mathlib.Core.Path.{◌≡◌, ap}
+use mathlib.Core.Path.{◌≡◌, ◌∙◌}
 use mathlib.Core.Bool.{Bool, true, false, cond}
+use mathlib.Core.List.{List}
 use lib.Dec.{eqb}
+use lib.Ieee.{Float}
 use lib.ListN.{get_or}
-use Rattle.rng_util.specs.Gen.{draw_of, made}
+use Rattle.rng_util.specs.Gen.{draw_of, Made, made}
+use Rattle.rng_util.specs.Many.{padded}
 use Rattle.rng_util.specs.declared.Gen.{Gen}
-use Rattle.rng_util.specs.declared.Drawn.{Drawn}
 use Rattle.rng_util.proofs.Parts.{many-draws}
+use Rattle.common.specs.Bounds.{zero_f}
 use Rattle.common.specs.declared.Bounds.{Bounds}
-use Rattle.candidates.specs.Random.{random_entry, nan_bounds, entry_at, random_entries, random_choice, choice_at, random_choices, random_candidate}
-use Rattle.candidates.specs.Records.{entry_rec, entries_rec, choice_rec, candidate_rec}
+use Rattle.candidates.specs.Random.{random_entry, nan_bounds, entry_at, random_entries, random_choice, choice_at, random_choices, with_choices, random_candidate}
+use Rattle.candidates.specs.declared.Candidate.{Candidate}
 use Rattle.candidates.specs.declared.Space.{Space}
-use Rattle.candidates.specs.declared.DrawnEntry.{DrawnEntry}
-use Rattle.candidates.specs.declared.DrawnEntries.{DrawnEntries}
-use Rattle.candidates.specs.declared.DrawnChoice.{DrawnChoice}
-use Rattle.candidates.specs.declared.DrawnCandidate.{DrawnCandidate}
-
-pub draw-draws : (g : Gen) (d : Drawn) → d ≡ draw_of g → d.after.draws ≡ g.draws + 1
-unfolding draw_of
-draw-draws g d e = ap (λ (x : Drawn). x.after.draws) e
 
 pub entry-draws : (b : Bounds) (g : Gen) → (random_entry b g).after.draws ≤ g.draws + 1
 unfolding random_entry draw_of
@@ -47,16 +42,8 @@ pub candidate-draws : (s : Space) (g : Gen) → (random_candidate s g).after.dra
 unfolding random_candidate
 candidate-draws s g = omega (arith, choices-draws s (random_entries s g).after, entries-draws s g)
 
--- ---- after a call
-
-pub drew-entry : (b : Bounds) (g : Gen) (d : DrawnEntry) → d ≡ entry_rec (random_entry b g) → d.after.draws ≤ g.draws + 1
-drew-entry b g d e = rw e (entry-draws b g)
-
-pub drew-choice : (k : ℕ) (g : Gen) (d : DrawnChoice) → d ≡ choice_rec (random_choice k g) → d.after.draws ≤ g.draws + 1
-drew-choice k g d e = rw e (choice-draws k g)
-
-pub drew-entries : (s : Space) (g : Gen) (d : DrawnEntries) → d ≡ entries_rec (random_entries s g) → d.after.draws ≤ g.draws + s.n
-drew-entries s g d e = rw e (entries-draws s g)
-
-pub drew-candidate : (s : Space) (g : Gen) (d : DrawnCandidate) → d ≡ candidate_rec (random_candidate s g) → d.after.draws ≤ g.draws + s.n + s.n_dims
-drew-candidate s g d e = rw e (candidate-draws s g)
+pub with-choices : (s : Space) (xs : Made (List Float)) (x : List Float) (cs : List ℕ) (g g' : Gen) → made x g ≡ padded 16 zero_f xs → made cs g' ≡ padded 16 0 (random_choices s g)
+    → made {A = Candidate} (record { x = x; choices = cs }) g' ≡ with_choices s xs
+with-choices s xs x cs g g' e f =
+    let h : made cs g' ≡ padded 16 0 (random_choices s xs.after) = f ∙ (λ i. padded 16 0 (random_choices s (e i).after)) in
+    λ i. made (record { x = (e i).out; choices = (h i).out }) (h i).after

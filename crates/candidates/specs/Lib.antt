@@ -2,4 +2,3 @@ pub mod Space
 pub mod Candidate
 pub mod Random
 pub mod Nan
-pub mod Records

@@ -12,7 +12,7 @@ use Rattle.candidates.specs.declared.Space.{Space}
 
 -- an entry "by `f64_range`" between its dimension's bounds: one draw
 unfoldable pub random_entry : Bounds → Gen → Made Float
-random_entry b g = made (range_of b.low b.high (unit_of (draw_of g).output)) (draw_of g).after
+random_entry b g = made (range_of b.low b.high (unit_of (draw_of g).out)) (draw_of g).after
 
 -- what a read past the end of an array of bounds gives
 abbrev pub nan_bounds : Bounds
@@ -28,7 +28,7 @@ random_entries s g = many (entry_at s) s.n 0 g
 
 -- one of k choices by `usize(0..k)`: one draw; a dimension without choices, a continuous one, has 0 there, without a draw
 unfoldable pub random_choice : ℕ → Gen → Made ℕ
-random_choice k g = cond (eqb k 0) (made 0 g) (made (usize_of (draw_of g).output k) (draw_of g).after)
+random_choice k g = cond (eqb k 0) (made 0 g) (made (usize_of (draw_of g).out k) (draw_of g).after)
 
 -- the choice of dimension i
 abbrev pub choice_at : Space → ℕ → Gen → Made ℕ

@@ -1,17 +1,15 @@
 -- The search space: what the draws read of the dimensions.
-use Rattle.std.specs.Prelude.{ℕ, ◌<◌, ◌≤◌, cond, List, [], ◌∷◌, map, length, get_or}
+use Rattle.std.specs.Prelude.{ℕ, ◌<◌, ◌≤◌, List, map, filter, length, get_or}
 use Rattle.rng_util.specs.Many.{pad_to}
 use Rattle.distribution.specs.Dims.{is_continuous, choices_of, no_dim}
 use Rattle.distribution.specs.declared.DimensionInfo.{DimensionInfo}
 use Rattle.common.specs.Bounds.{no_bounds, bounds_of}
 use Rattle.common.specs.declared.Bounds.{Bounds}
-use Rattle.candidates.specs.declared.Spans.{Spans}
 use Rattle.candidates.specs.declared.Space.{Space}
 
 -- "Float and Int are continuous": those dimensions, in order
 unfoldable pub continuous_dims : List DimensionInfo → List DimensionInfo
-continuous_dims [] = []
-continuous_dims (d ∷ ds) = cond (is_continuous d) (d ∷ continuous_dims ds) (continuous_dims ds)
+continuous_dims = filter is_continuous
 
 -- "n counting continuous dimensions"
 abbrev pub continuous_count : List DimensionInfo → ℕ
@@ -25,14 +23,10 @@ continuous_bounds ds = map bounds_of (continuous_dims ds)
 abbrev pub choice_counts : List DimensionInfo → List ℕ
 choice_counts = map choices_of
 
--- the first in an array, with its length
-unfoldable pub spans_of : List DimensionInfo → Spans
-spans_of ds = record { bounds = pad_to 16 no_bounds (continuous_bounds ds); n = continuous_count ds }
-
 -- the search space of the discovered dimensions: both in arrays, with n and D
 unfoldable pub space_of : List DimensionInfo → Space
-unfolding spans_of
-space_of ds = record { bounds = (spans_of ds).bounds; n = (spans_of ds).n; counts = pad_to 16 0 (choice_counts ds); n_dims = length ds }
+space_of ds =
+    record { bounds = pad_to 16 no_bounds (continuous_bounds ds); n = continuous_count ds; counts = pad_to 16 0 (choice_counts ds); n_dims = length ds }
 
 -- "1 to 65,535 choices": no dimension has more
 unfoldable pub FewChoices : List DimensionInfo → Type 0

@@ -2,11 +2,13 @@
 // "Helpers", `generate_initial_population`).
 #![tactic(auto)]
 
-ghost use Rattle.std.specs.Prelude.{◌≡◌, ◌≤◌, ◌<◌, ◌^◌, take};
+ghost use Rattle.std.specs.Prelude.{◌≡◌, ◌≤◌, ◌<◌, ◌^◌, length};
+ghost use Rattle.rng_util.specs.Gen.{made};
+ghost use Rattle.rng_util.specs.Many.{padded};
+ghost use Rattle.common.specs.Bounds.{zero_f};
 ghost use Rattle.candidates.specs.Candidate.{blank_candidate, entry_of, choice_of, continuous_place};
-ghost use Rattle.candidates.specs.Space.{choice_counts, FewChoices, spans_of, space_of};
+ghost use Rattle.candidates.specs.Space.{continuous_count, FewChoices, space_of};
 ghost use Rattle.candidates.specs.Random.{random_entry, random_entries, random_choice, random_choices, random_candidate, random_candidates};
-ghost use Rattle.candidates.specs.Records.{pad_counts, entry_rec, entries_rec, choice_rec, choices_rec, candidate_rec, candidates_rec};
 ghost use Rattle.candidates.specs.Nan.{any_nan, any_bad};
 
 use common::Bounds;
@@ -21,15 +23,34 @@ pub struct Candidate {
     pub choices: [u16; 16],
 }
 
-// The bounds of the continuous dimensions, in order.
-#[derive(Clone, Copy)]
-pub struct Spans {
-    pub bounds: [Bounds; 16],
-    pub n: usize,
+impl Candidate {
+    // Every place is unused.
+    pub fn blank() -> Candidate
+        ensures { result ≡ blank_candidate }
+    {
+        Candidate {
+            x: [0.0; 16],
+            choices: [0; 16],
+        }
+    }
+
+    // The entry of a continuous dimension; 0 past the last place.
+    pub fn entry(&self, at: Ci) -> f64
+        ensures { result ≡ entry_of self.now at }
+    {
+        self.x.get(at.0).copied().unwrap_or(0.0)
+    }
+
+    // The choice of a dimension; 0 past the last place.
+    pub fn choice(&self, at: DimIdx) -> u16
+        ensures { result ≡ choice_of self.now at }
+    {
+        self.choices.get(at.0).copied().unwrap_or(0)
+    }
 }
 
 // What the draws read of the dimensions, made once: the bounds of the n continuous ones in order, and the number of
-// choices of each dimension, 0 for a continuous one.
+// choices of each dimension, 0 for a continuous one. No ghost field bounds n and n_dims: `space_of` is of every list.
 #[derive(Clone, Copy)]
 pub struct Space {
     pub bounds: [Bounds; 16],
@@ -38,280 +59,131 @@ pub struct Space {
     pub n_dims: usize,
 }
 
-// What was drawn, and the generator after it.
-#[derive(Clone, Copy)]
-pub struct DrawnEntry {
-    pub entry: f64,
-    pub after: Gen,
-}
-
-#[derive(Clone, Copy)]
-pub struct DrawnEntries {
-    pub x: [f64; 16],
-    pub after: Gen,
-}
-
-#[derive(Clone, Copy)]
-pub struct DrawnChoice {
-    pub choice: u16,
-    pub after: Gen,
-}
-
-#[derive(Clone, Copy)]
-pub struct DrawnChoices {
-    pub choices: [u16; 16],
-    pub after: Gen,
-}
-
-#[derive(Clone, Copy)]
-pub struct DrawnCandidate {
-    pub candidate: Candidate,
-    pub after: Gen,
-}
-
-#[derive(Clone, Copy)]
-pub struct DrawnCandidates {
-    pub candidates: [Candidate; 224],
-    pub after: Gen,
-}
-
-// A candidate of which every place is unused.
-pub fn blank_candidate() -> Candidate
-    ensures { result ≡ blank_candidate }
+// How many of the dimensions are continuous.
+#[tactic(auto, unfolding(crate::specs::Space::continuous_dims))]
+fn continuous_count(dims: &[DimensionInfo]) -> usize
+    ensures { result ≡ continuous_count dims.now }
 {
-    let x = [0.0f64; 16];
-    let choices = [0u16; 16];
-    Candidate { x, choices }
-}
-
-// The entry of a continuous dimension; 0 past the last place.
-pub fn entry(c: Candidate, at: Ci) -> f64
-    ensures { result ≡ entry_of c at }
-{
-    let j = at.0;
-    let x = c.x;
-    if j < 16 { x[j] } else { 0.0 }
-}
-
-// The choice of a dimension; 0 past the last place.
-pub fn choice(c: Candidate, at: DimIdx) -> u16
-    ensures { result ≡ choice_of c at }
-{
-    let i = at.0;
-    let choices = c.choices;
-    if i < 16 { choices[i] } else { 0 }
+    dims.iter()
+        .filter(|d| distribution::is_continuous(d.distribution))
+        .count()
 }
 
 // The place among the continuous dimensions: how many of them stand before.
-pub fn continuous_place(dims: [DimensionInfo; 16], n_dims: usize, at: DimIdx) -> Ci
-    requires { (at.0 ≤ n_dims) × (n_dims ≤ 16) }
-    ensures { result ≡ continuous_place (take n_dims dims) at }
+pub fn continuous_place(dims: &[DimensionInfo], at: DimIdx) -> Ci
+    requires { at.0 ≤ length dims.now }
+    ensures { result ≡ continuous_place dims.now at }
 {
-    let end = at.0;
-    let mut ci: usize = 0;
-    let mut i: usize = 0;
-    while i < end {
-        let d = dims[i];
-        let k = d.distribution;
-        i += 1;
-        if distribution::is_continuous(k) {
-            ci += 1;
-        }
-    }
-    Ci(ci)
+    Ci(continuous_count(&dims[..at.0]))
 }
 
-// The bounds of the continuous dimensions, in order.
-fn continuous_bounds(dims: [DimensionInfo; 16], n_dims: usize) -> Spans
-    requires { n_dims ≤ 16 }
-    ensures { result ≡ spans_of (take n_dims dims) }
+// The search space of the discovered dimensions.
+pub fn search_space(dims: &[DimensionInfo]) -> Space
+    requires { (length dims.now ≤ 16) × FewChoices dims.now }
+    ensures { result ≡ space_of dims.now }
 {
     let none = Bounds {
         low: 0.0,
         high: 0.0,
     };
     let mut bounds = [none; 16];
-    let mut ci: usize = 0;
-    let mut i: usize = 0;
-    while i < n_dims {
-        let d = dims[i];
-        let k = d.distribution;
-        i += 1;
-        if distribution::is_continuous(k) {
-            let b = common::internal_bounds(k);
-            bounds[ci] = b;
-            ci += 1;
+    let mut n = 0;
+    let mut counts = [0; 16];
+    for (i, d) in dims.iter().enumerate() {
+        counts[i] = distribution::choices_of(d.distribution) as u16;
+        if distribution::is_continuous(d.distribution) {
+            bounds[n] = common::internal_bounds(d.distribution);
+            n += 1;
         }
     }
-    Spans { bounds, n: ci }
-}
-
-// The number of choices of each dimension, 0 for a continuous one.
-fn choice_counts(dims: [DimensionInfo; 16], n_dims: usize) -> [u16; 16]
-    requires { (n_dims ≤ 16) × FewChoices (take n_dims dims) }
-    ensures { result ≡ pad_counts (choice_counts (take n_dims dims)) }
-{
-    let mut counts = [0u16; 16];
-    let mut i: usize = 0;
-    while i < n_dims {
-        let d = dims[i];
-        let k = d.distribution;
-        let count = distribution::choices_of(k);
-        counts[i] = count as u16;
-        i += 1;
-    }
-    counts
-}
-
-// The search space of the discovered dimensions.
-pub fn search_space(dims: [DimensionInfo; 16], n_dims: usize) -> Space
-    requires { (n_dims ≤ 16) × FewChoices (take n_dims dims) }
-    ensures { result ≡ space_of (take n_dims dims) }
-{
-    let s = continuous_bounds(dims, n_dims);
-    let counts = choice_counts(dims, n_dims);
-    let bounds = s.bounds;
     Space {
         bounds,
-        n: s.n,
+        n,
         counts,
-        n_dims,
+        n_dims: dims.len(),
     }
 }
 
 // A random entry between its dimension's bounds.
-fn sample_random_internal(bounds: Bounds, from: Gen) -> DrawnEntry
-    requires { from.draws < 2 ^ 63 }
-    ensures { result ≡ entry_rec (random_entry bounds from) }
+#[tactic(auto, unfolding(crate::specs::Random::random_entry))]
+fn sample_random_internal(bounds: Bounds, rng: &mut Gen) -> f64
+    requires { rng.old.draws < 2 ^ 63 }
+    ensures { made result rng.new ≡ random_entry bounds rng.old }
 {
-    let d = rng_util::draw(from);
-    let u = rng_util::unit(d.output);
-    let entry = rng_util::f64_range(bounds.low, bounds.high, u);
-    let after = d.after;
-    DrawnEntry { entry, after }
+    let u = rng_util::unit(rng.draw());
+    rng_util::f64_range(bounds.low, bounds.high, u)
 }
 
 // A random entry for each continuous dimension, in order.
-fn random_entries(space: Space, from: Gen) -> DrawnEntries
-    requires { (space.n ≤ 16) × (from.draws < 2 ^ 62) }
-    ensures { result ≡ entries_rec (random_entries space from) }
+fn random_entries(space: &Space, rng: &mut Gen) -> [f64; 16]
+    requires { (space.now.n ≤ 16) × (rng.old.draws < 2 ^ 62) }
+    ensures { made result rng.new ≡ padded 16 zero_f (random_entries space.now rng.old) }
 {
-    let n = space.n;
-    let mut x = [0.0f64; 16];
-    let mut g = from;
-    let mut j: usize = 0;
-    while j < n {
-        let b = space.bounds[j];
-        let d = sample_random_internal(b, g);
-        x[j] = d.entry;
-        g = d.after;
-        j += 1;
+    let mut x = [0.0; 16];
+    for j in 0..space.n {
+        x[j] = sample_random_internal(space.bounds[j], rng);
     }
-    DrawnEntries { x, after: g }
+    x
 }
 
 // One of k choices; 0, without a draw, where there are none.
-fn random_choice(k: u16, from: Gen) -> DrawnChoice
-    requires { from.draws < 2 ^ 63 }
-    ensures { result ≡ choice_rec (random_choice k from) }
+#[tactic(auto, unfolding(crate::specs::Random::random_choice))]
+fn random_choice(k: u16, rng: &mut Gen) -> u16
+    requires { rng.old.draws < 2 ^ 63 }
+    ensures { made result rng.new ≡ random_choice k rng.old }
 {
     if k == 0 {
-        return DrawnChoice {
-            choice: 0,
-            after: from,
-        };
+        return 0;
     }
-    let d = rng_util::draw(from);
-    let c = rng_util::usize_below(d.output, k as u64);
-    let after = d.after;
-    DrawnChoice {
-        choice: c as u16,
-        after,
-    }
+    rng_util::usize_below(rng.draw(), u64::from(k)) as u16
 }
 
 // A choice for each dimension that has some, in order.
-pub fn random_choices(space: Space, from: Gen) -> DrawnChoices
-    requires { (space.n_dims ≤ 16) × (from.draws < 2 ^ 62) }
-    ensures { result ≡ choices_rec (random_choices space from) }
+pub fn random_choices(space: &Space, rng: &mut Gen) -> [u16; 16]
+    requires { (space.now.n_dims ≤ 16) × (rng.old.draws < 2 ^ 62) }
+    ensures { made result rng.new ≡ padded 16 0 (random_choices space.now rng.old) }
 {
-    let n = space.n_dims;
-    let mut choices = [0u16; 16];
-    let mut g = from;
-    let mut i: usize = 0;
-    while i < n {
-        let d = random_choice(space.counts[i], g);
-        choices[i] = d.choice;
-        g = d.after;
-        i += 1;
+    let mut choices = [0; 16];
+    for i in 0..space.n_dims {
+        choices[i] = random_choice(space.counts[i], rng);
     }
-    DrawnChoices { choices, after: g }
+    choices
 }
 
 // A random candidate: entries, then choices.
-pub fn random_candidate(space: Space, from: Gen) -> DrawnCandidate
-    requires { (space.n ≤ 16) × (space.n_dims ≤ 16) × (from.draws < 2 ^ 61) }
-    ensures { result ≡ candidate_rec (random_candidate space from) }
+pub fn random_candidate(space: &Space, rng: &mut Gen) -> Candidate
+    requires { (space.now.n ≤ 16) × (space.now.n_dims ≤ 16) × (rng.old.draws < 2 ^ 61) }
+    ensures { made result rng.new ≡ random_candidate space.now rng.old }
 {
-    let a = random_entries(space, from);
-    let b = random_choices(space, a.after);
-    let x = a.x;
-    let choices = b.choices;
-    let candidate = Candidate { x, choices };
-    let after = b.after;
-    DrawnCandidate { candidate, after }
+    let x = random_entries(space, rng);
+    let choices = random_choices(space, rng);
+    Candidate { x, choices }
 }
 
 // Random candidates for the slots 0 to n - 1.
-pub fn generate_initial_population(space: Space, n: usize, from: Gen) -> DrawnCandidates
-    requires { (n ≤ 160) × (space.n ≤ 16) × (space.n_dims ≤ 16) × (from.draws < 2 ^ 60) }
-    ensures { result ≡ candidates_rec (random_candidates space n from) }
+pub fn generate_initial_population(space: &Space, n: usize, rng: &mut Gen) -> [Candidate; 224]
+    requires { (n ≤ 160) × (space.now.n ≤ 16) × (space.now.n_dims ≤ 16) × (rng.old.draws < 2 ^ 60) }
+    ensures { made result rng.new ≡ padded 224 blank_candidate (random_candidates space.now n rng.old) }
 {
-    let blank = blank_candidate();
-    let mut candidates = [blank; 224];
-    let mut g = from;
-    let mut i: usize = 0;
-    while i < n {
-        let d = random_candidate(space, g);
-        let c = d.candidate;
-        candidates[i] = c;
-        g = d.after;
-        i += 1;
+    let mut candidates = [Candidate::blank(); 224];
+    for candidate in &mut candidates[..n] {
+        *candidate = random_candidate(space, rng);
     }
-    DrawnCandidates {
-        candidates,
-        after: g,
-    }
+    candidates
 }
 
 // Whether an entry is NaN.
-pub fn has_nan(c: Candidate) -> bool
-    ensures { result ≡ any_nan c.x }
+#[tactic(auto, unfolding(crate::specs::Nan::any_nan))]
+pub fn has_nan(c: &Candidate) -> bool
+    ensures { result ≡ any_nan c.now.x }
 {
-    let x = c.x;
-    let mut j: usize = 0;
-    while j < 16 {
-        let v = x[j];
-        if v != v {
-            return true;
-        }
-        j += 1;
-    }
-    false
+    c.x.iter().any(|v| v.is_nan())
 }
 
-// Whether an entry of the first n candidates is NaN: refusal 11.
-pub fn any_bad(candidates: [Candidate; 224], n: usize) -> bool
-    requires { n ≤ 224 }
-    ensures { result ≡ any_bad (take n candidates) }
+// Whether an entry of the candidates is NaN: refusal 11.
+#[tactic(auto, unfolding(crate::specs::Nan::any_bad))]
+pub fn any_bad(candidates: &[Candidate]) -> bool
+    ensures { result ≡ any_bad candidates.now }
 {
-    let mut i: usize = 0;
-    while i < n {
-        let c = candidates[i];
-        if has_nan(c) {
-            return true;
-        }
-        i += 1;
-    }
-    false
+    candidates.iter().any(has_nan)
 }

@@ -1,24 +1,23 @@
-use native.Mathlib.Omega.{arith}
-use Rattle.rng_util.proofs.Parts.{part-first, part-again, part-last}
-use Rattle.candidates.specs.Random.{candidate_at, random_candidates}
+use Rattle.std.proofs.Common.{◌<◌, arith}
+use borrow.Author.Rules.{rules}
+use Rattle.rng_util.proofs.Parts.{padded_lent, padded_more, padded_draws, padded_all}
 use Rattle.candidates.specs.Candidate.{blank_candidate}
-use Rattle.candidates.proofs.Drawn.{candidate-parts}
-use Rattle.candidates.proofs.Draws.{drew-candidate}
+use Rattle.candidates.specs.Random.{random_candidates}
+use Rattle.candidates.proofs.Draws.{candidate-draws}
 use Rattle.candidates.proofs.generate_initial_population.Goals as goal
 
-pub loop-i-init : goal.loop-i-init
-loop-i-init c = (omega arith, omega arith, rw c.blank_candidate-blank.ensures (part-first _ _ _ _ _))
+pub loop-candidate-init : goal.loop-candidate-init
+loop-candidate-init c = rw c.blank-candidates.ensures (padded_lent _ 224 blank_candidate _ _ (omega arith))
 
-pub loop-i-preserved : goal.loop-i-preserved
-loop-i-preserved c =
-    let l = c.loop-i in
-    let a = c.args in
-    let e = c.random_candidate-d.ensures in
-    (omega arith, omega (arith, drew-candidate a.space l.g _ e), part-again 224 blank_candidate (candidate_at a.space) a.n _ _ l.g l.i _ _ (omega arith) (omega arith) (candidate-parts _ _ e).0 (candidate-parts _ _ e).1 l.invariant.2)
+pub random_candidate-requires : goal.random_candidate-requires
+random_candidate-requires c =
+    let few = padded_draws _ c.args.n blank_candidate _ _ _ _ c.loop-candidate.invariant 32 (λ i f. omega (arith, candidate-draws c.args.space.now f)) in
+    let lent : c.loop-candidate.candidate-index < c.args.n = search rules in
+    (search rules, search rules, omega (arith, few))
+
+pub loop-candidate-preserved : goal.loop-candidate-preserved
+loop-candidate-preserved c = padded_more _ c.args.n blank_candidate _ _ _ _ c.loop-candidate.invariant _ _ (search rules) c.random_candidate.ensures
 
 pub returns : goal.returns
 unfolding random_candidates
-returns c =
-    let a = c.args in
-    let e = part-last 224 blank_candidate (candidate_at a.space) a.n _ _ _ _ (omega arith) c.loop-i.invariant.2 in
-    λ i. record { candidates = e.0 i; after = e.1 i }
+returns c = rw c.blank-candidates.ensures (padded_all _ 224 blank_candidate _ _ _ _ _ (omega arith) (search rules) c.loop-candidate.invariant)

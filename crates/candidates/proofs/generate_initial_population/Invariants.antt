@@ -1,12 +1,10 @@
--- `generate_initial_population` meets its contract: the house form of a loop that fills (`Part`), one candidate a turn. Assumes nothing.
-use Prim.Native.Nat.{◌≤◌, ◌+◌, ◌-◌, ◌*◌}
-use Rattle.rng_util.proofs.Parts.{Part}
-use Rattle.candidates.specs.Random.{candidate_at}
+-- `generate_initial_population` meets its contract: of the n places as many candidates are drawn and stored.
+use Rattle.std.proofs.Common.{◌≡◌}
+use Rattle.rng_util.specs.Gen.{made}
+use Rattle.rng_util.specs.Many.{padded, many}
 use Rattle.candidates.specs.Candidate.{blank_candidate}
+use Rattle.candidates.specs.Random.{candidate_at}
 use Rattle.candidates.proofs.generate_initial_population.Given as goal
 
-abbrev pub invariant-loop-i : goal.invariant-loop-i
-invariant-loop-i l = (l.i ≤ l.n) × (l.g.draws ≤ l.initial.g.draws + 32 * l.i) × Part 224 blank_candidate (candidate_at l.space) l.n l.initial.g l.candidates l.g l.i
-
-abbrev pub decreases-loop-i : goal.decreases-loop-i
-decreases-loop-i l = l.n - l.i
+abbrev pub invariant-loop-candidate : goal.invariant-loop-candidate
+invariant-loop-candidate l = made l.candidate-items l.rng ≡ padded l.n blank_candidate (many (candidate_at l.space) l.candidate-index 0 l.initial.rng)
