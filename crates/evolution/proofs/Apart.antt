@@ -3,16 +3,15 @@ use Prim.Native.Nat.{ℕ, ◌+◌, ◌<◌, ◌≤◌}
 use native.Mathlib.Omega.{arith}
 use mathlib.Core.Path.{◌≡◌, ap, ◌∙◌}
 use mathlib.Core.Bool.{Bool, true, false, cond}
-use mathlib.Core.List.{[], ◌∷◌}
+use mathlib.Core.List.{List, [], ◌∷◌}
 use borrow.Author.Tests.{eq-eqb, ne_eqb}
 use lib.Dec.{eqb}
 use Rattle.rng_util.specs.Gen.{Made, made}
 use Rattle.rng_util.specs.declared.Gen.{Gen}
-use Rattle.evolution.specs.Select.{select_from, select_index, first_index, second_index, indices_of}
-use Rattle.evolution.specs.Records.{index_rec}
+use Rattle.rng_util.proofs.Parts.{drew}
+use Rattle.evolution.specs.Select.{select_index, first_index, second_index, three_of, indices_of}
 use Rattle.evolution.specs.declared.Indices.{Indices}
-use Rattle.evolution.specs.declared.DrawnIndex.{DrawnIndex}
-use Rattle.evolution.proofs.Free.{select-free, select-below, select-draws, select-same, once-free, both-free, free-first, free-rest}
+use Rattle.evolution.proofs.Free.{select-free, select-below, select-draws, free-first, free-rest}
 
 -- two of them, always
 pub record Apart (N i : ℕ) (t : Indices) : Type 0 where
@@ -37,7 +36,7 @@ module _ (count N i : ℕ) (g : Gen) where
   abbrev two : Made ℕ
   two = second_index N i one
 
-  pub indices-apart : 4 ≤ N → Apart N i (indices_of count N i g)
+  pub indices-apart : 4 ≤ N → Apart N i (indices_of count N i g).out
   unfolding indices_of
   indices-apart h =
       let f = select-free N (i ∷ one.out ∷ []) (omega arith) 1024 one.after in
@@ -50,7 +49,7 @@ module _ (count N i : ℕ) (g : Gen) where
       }
 
   -- the third is a slot in any case
-  pub third-below : 4 ≤ N → i < N → (indices_of count N i g).r3 < N
+  pub third-below : 4 ≤ N → i < N → (indices_of count N i g).out.r3 < N
   unfolding indices_of
   third-below h l = go (eqb count 3)
     where
@@ -75,7 +74,7 @@ module _ (count N i : ℕ) (g : Gen) where
   indices-draws-two n = rw (ne_eqb count 3 n) two-draws
 
 module _ (N i : ℕ) (g : Gen) where
-  pub three-apart : 4 ≤ N → ThreeApart N i (indices_of 3 N i g)
+  pub three-apart : 4 ≤ N → ThreeApart N i (indices_of 3 N i g).out
   unfolding indices_of
   three-apart h =
       let a = first_index N i g in
@@ -90,31 +89,29 @@ module _ (N i : ℕ) (g : Gen) where
         apart_2 = free-first b.out [] _ (free-rest a.out (b.out ∷ []) _ r);
       }
 
--- ---- as the code draws them: a number that is taken may stand twice
+-- ---- as the code draws them
 
-module _ (count N i : ℕ) (g : Gen) (a b : DrawnIndex) (e : a ≡ index_rec (select_from N (i ∷ i ∷ i ∷ []) 1024 g)) (f : b ≡ index_rec (select_from N (i ∷ a.index ∷ a.index ∷ []) 1024 a.after)) where
-  a-is : a ≡ index_rec (first_index N i g)
-  a-is = e ∙ ap index_rec (select-same N (i ∷ i ∷ i ∷ []) (i ∷ []) (once-free i) 1024 g)
+pub drew-index : (N : ℕ) (ts : List ℕ) (r : ℕ) (g g' : Gen) → made r g' ≡ select_index N ts g → g'.draws ≤ g.draws + 1024
+drew-index N ts r g g' e = omega (arith, drew e, select-draws N ts 1024 g)
 
-  b_is : b ≡ index_rec (second_index N i (first_index N i g))
-  b_is = f ∙ ap index_rec (select-same N (i ∷ a.index ∷ a.index ∷ []) (i ∷ a.index ∷ []) (both-free i a.index) 1024 a.after) ∙ ap (λ (d : DrawnIndex). index_rec (select_from N (i ∷ d.index ∷ []) 1024 d.after)) a-is
+module _ (count N i : ℕ) (g g₁ g₂ : Gen) (r₁ r₂ : ℕ) (e : made r₁ g₁ ≡ first_index N i g) (f : made r₂ g₂ ≡ select_index N (i ∷ r₁ ∷ []) g₁) where
+  second-is : made r₂ g₂ ≡ second_index N i (first_index N i g)
+  second-is = f ∙ ap (second_index N i) e
 
-  pub got-three : (c : DrawnIndex) → count ≡ 3 → c ≡ index_rec (select_from N (i ∷ a.index ∷ b.index ∷ []) 1024 b.after) → record { r1 = a.index; r2 = b.index; r3 = c.index; after = c.after } ≡ indices_of count N i g
+  pub got-three : (r₃ : ℕ) (g₃ : Gen) → count ≡ 3 → made r₃ g₃ ≡ select_index N (i ∷ r₁ ∷ r₂ ∷ []) g₂ → made {A = Indices} (record { r1 = r₁; r2 = r₂; r3 = r₃ }) g₃ ≡ indices_of count N i g
   unfolding indices_of
-  got-three c n q = rw (q, b_is, a-is, eq-eqb count 3 n)
+  got-three r₃ g₃ n q =
+      let h : made r₃ g₃ ≡ select_index N (i ∷ (first_index N i g).out ∷ (second_index N i (first_index N i g)).out ∷ []) (second_index N i (first_index N i g)).after =
+      q ∙ (λ t. select_index N (i ∷ (e t).out ∷ (second-is t).out ∷ []) (second-is t).after) in
+      rw (eq-eqb count 3 n) (λ t. three_of (e t) (second-is t) (h t))
 
-  pub got-two : (count ≡ 3 → ⊥) → record { r1 = a.index; r2 = b.index; r3 = i; after = b.after } ≡ indices_of count N i g
+  pub got-two : (count ≡ 3 → ⊥) → made {A = Indices} (record { r1 = r₁; r2 = r₂; r3 = i }) g₂ ≡ indices_of count N i g
   unfolding indices_of
-  got-two n = rw (b_is, a-is, ne_eqb count 3 n)
+  got-two n = rw (ne_eqb count 3 n) (λ t. three_of (e t) (second-is t) (made i (second-is t).after))
 
-pub drew-index : (N : ℕ) (ts : _) (g : Gen) (d : DrawnIndex) → d ≡ index_rec (select_from N ts 1024 g) → d.after.draws ≤ g.draws + 1024
-drew-index N ts g d e = rw e (select-draws N ts 1024 g)
-
-module _ (count N i : ℕ) (g : Gen) (t : Indices) (h : 4 ≤ N) (e : t ≡ indices_of count N i g) where
-  pub drew-indices : t.after.draws ≤ g.draws + 3072
-  drew-indices = rw e (indices-draws count N i g)
-
-  pub in-range : N ≤ 160 → i < N → (t.r1 < 160) × (t.r2 < 160) × (t.r3 < 160)
-  in-range m l =
+module _ (count N i : ℕ) (g g' : Gen) (t : Indices) (h : 4 ≤ N) (l : i < N) (e : made t g' ≡ indices_of count N i g) where
+  pub in-range : (t.r1 < N) × (t.r2 < N) × (t.r3 < N)
+  in-range =
       let p = indices-apart count N i g h in
-      rw e (omega (arith, p.below_1), omega (arith, p.below_2), omega (arith, third-below count N i g h l))
+      let q : t ≡ (indices_of count N i g).out = ap (λ (m : Made Indices). m.out) e in
+      rw q (p.below_1, p.below_2, third-below count N i g h l)

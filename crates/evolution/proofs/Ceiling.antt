@@ -13,13 +13,12 @@ use Rattle.rng_util.specs.Draws.{usize_of}
 use Rattle.rng_util.specs.Gen.{draw_of}
 use Rattle.rng_util.specs.Many.{many}
 use Rattle.rng_util.specs.declared.Gen.{Gen}
-use Rattle.rng_util.proofs.Parts.{many-draws}
+use Rattle.rng_util.proofs.Parts.{many-draws, draw-draws}
 use Rattle.distribution.specs.declared.DimensionInfo.{DimensionInfo}
 use Rattle.common.specs.declared.Bounds.{Bounds}
 use Rattle.candidates.specs.Space.{space_of}
 use Rattle.candidates.specs.Random.{nan_bounds, random_candidates}
 use Rattle.candidates.specs.declared.Space.{Space}
-use Rattle.candidates.proofs.Draws.{draw-draws}
 use Rattle.candidates.proofs.Count.{choices-count, draws-few, candidates-few}
 use Rattle.evolution.specs.Select.{index_count, indices_of}
 use Rattle.evolution.specs.Mutant.{entries, mutant_at, indices_for}
@@ -70,7 +69,7 @@ module _ (S : Setup) (x : ℕ → ℕ → Float) (N best : ℕ) (ds : List Dimen
   trial-ceiling i g =
       let t = indices_for S N i g in
       let d = draw_of t.after in
-      omega (arith, indices-ceiling S.strategy N i g, draw-draws t.after d refl, crossed-count S.crossover_rate (usize_of d.output (space_of ds).n) (mutant_at S x best i t) (x i) (space_of ds) d.after (mod-lt d.output some), choices-count ds (cross_with S x best (space_of ds) i t).after, draws-few ds)
+      omega (arith, indices-ceiling S.strategy N i g, draw-draws t.after, crossed-count S.crossover_rate (usize_of d.out (space_of ds).n) (mutant_at S x best i t.out) (x i) (space_of ds) d.after (mod-lt d.out some), choices-count ds (cross_with S x best (space_of ds) i t).after, draws-few ds)
 
 -- the candidates of a later generation
 pub ceiling : (S : Setup) (ps : List Member) (best : ℕ) (ds : List DimensionInfo) (g : Gen) → (next_candidates S ps best (space_of ds) g).after.draws ≤ g.draws + length ps * (tries S.strategy + length ds)

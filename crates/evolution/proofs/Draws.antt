@@ -1,23 +1,22 @@
 -- How many draws are made at most: what the code's counter stays below.
 use Prim.Native.Nat.{ℕ, ◌+◌, ◌≤◌}
 use native.Mathlib.Omega.{arith}
-use mathlib.Core.Path.{◌≡◌, refl}
+use mathlib.Core.Path.{◌≡◌}
 use mathlib.Core.Bool.{Bool, true, false, cond}
+use mathlib.Core.List.{List}
 use lib.Dec.{eqb}
 use lib.Ieee.{Float, lt}
 use lib.ListN.{get_or}
 use Rattle.rng_util.specs.Draws.{unit_of, usize_of}
 use Rattle.rng_util.specs.Gen.{draw_of, made}
+use Rattle.rng_util.specs.Many.{padded}
 use Rattle.rng_util.specs.declared.Gen.{Gen}
-use Rattle.rng_util.proofs.Parts.{many-draws}
+use Rattle.rng_util.proofs.Parts.{many-draws, draw-draws, drew}
+use Rattle.common.specs.Bounds.{zero_f}
 use Rattle.common.specs.declared.Bounds.{Bounds}
 use Rattle.candidates.specs.Random.{nan_bounds}
-use Rattle.candidates.specs.Records.{entry_rec, entries_rec, candidate_rec}
 use Rattle.candidates.specs.declared.Space.{Space}
-use Rattle.candidates.specs.declared.DrawnEntry.{DrawnEntry}
-use Rattle.candidates.specs.declared.DrawnEntries.{DrawnEntries}
-use Rattle.candidates.specs.declared.DrawnCandidate.{DrawnCandidate}
-use Rattle.candidates.proofs.Draws.{draw-draws, choices-draws}
+use Rattle.candidates.proofs.Draws.{choices-draws}
 use Rattle.evolution.specs.Select.{index_count}
 use Rattle.evolution.specs.Mutant.{mutant_at, indices_for, mutated}
 use Rattle.evolution.specs.Cross.{judged_entry, cross_entry, cross_at, crossed}
@@ -32,7 +31,7 @@ one_at_most false a b g = omega arith
 
 pub cross-draws : (rate : Float) (star : ℕ) (v x : Float) (b : Bounds) (j : ℕ) (g : Gen) → (cross_entry rate star v x b j g).after.draws ≤ g.draws + 1
 unfolding cross_entry
-cross-draws rate star v x b j g = one_at_most (eqb j star) (judged_entry b v) (judged_entry b (cond (lt (unit_of (draw_of g).output) rate) v x)) g
+cross-draws rate star v x b j g = one_at_most (eqb j star) (judged_entry b v) (judged_entry b (cond (lt (unit_of (draw_of g).out) rate) v x)) g
 
 pub crossed-draws : (rate : Float) (star : ℕ) (v x : ℕ → Float) (s : Space) (g : Gen) → (crossed rate star v x s g).after.draws ≤ g.draws + s.n
 unfolding crossed
@@ -47,18 +46,12 @@ unfolding trial_of
 trial-draws S x N best s i g =
     let t = indices_for S N i g in
     let d = draw_of t.after in
-    omega (arith, indices-draws (index_count S.strategy) N i g, draw-draws t.after d refl, crossed-draws S.crossover_rate (usize_of d.output s.n) (mutant_at S x best i t) (x i) s d.after, choices-draws s (cross_with S x best s i t).after)
+    omega (arith, indices-draws (index_count S.strategy) N i g, draw-draws t.after, crossed-draws S.crossover_rate (usize_of d.out s.n) (mutant_at S x best i t.out) (x i) s d.after, choices-draws s (cross_with S x best s i t).after)
 
 -- ---- after a call
 
-pub drew-entry : (rate : Float) (star : ℕ) (v x : Float) (b : Bounds) (j : ℕ) (g : Gen) (d : DrawnEntry) → d ≡ entry_rec (cross_entry rate star v x b j g) → d.after.draws ≤ g.draws + 1
-drew-entry rate star v x b j g d e = rw e (cross-draws rate star v x b j g)
+pub drew-mutant : (S : Setup) (x : ℕ → ℕ → Float) (N best i n : ℕ) (g g' : Gen) (v : List Float) → made v g' ≡ padded 16 zero_f (mutated S x N best i n g) → g'.draws ≤ g.draws + 3072
+drew-mutant S x N best i n g g' v e = omega (arith, drew e, mutant-draws S x N best i n g)
 
-pub drew-crossed : (rate : Float) (star : ℕ) (v x : ℕ → Float) (s : Space) (g : Gen) (d : DrawnEntries) → d ≡ entries_rec (crossed rate star v x s g) → d.after.draws ≤ g.draws + s.n
-drew-crossed rate star v x s g d e = rw e (crossed-draws rate star v x s g)
-
-pub drew-mutant : (S : Setup) (x : ℕ → ℕ → Float) (N best i n : ℕ) (g : Gen) (d : DrawnEntries) → d ≡ entries_rec (mutated S x N best i n g) → d.after.draws ≤ g.draws + 3072
-drew-mutant S x N best i n g d e = rw e (mutant-draws S x N best i n g)
-
-pub drew-trial : (S : Setup) (x : ℕ → ℕ → Float) (N best : ℕ) (s : Space) (i : ℕ) (g : Gen) (d : DrawnCandidate) → d ≡ candidate_rec (trial_of S x N best s i g) → d.after.draws ≤ g.draws + 3073 + s.n + s.n_dims
-drew-trial S x N best s i g d e = rw e (trial-draws S x N best s i g)
+pub drew-crossed : (rate : Float) (star : ℕ) (v x : ℕ → Float) (s : Space) (g g' : Gen) (xs : List Float) → made xs g' ≡ padded 16 zero_f (crossed rate star v x s g) → g'.draws ≤ g.draws + s.n
+drew-crossed rate star v x s g g' xs e = omega (arith, drew e, crossed-draws rate star v x s g)

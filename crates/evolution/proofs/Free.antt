@@ -3,39 +3,59 @@ use Prim.Native.Nat.{ℕ, zero, suc, ◌+◌, ◌-◌, ◌<◌, ◌≤◌}
 use native.Mathlib.Nat.{mod-lt}
 use native.Mathlib.Omega.{arith}
 use mathlib.Core.Path.{◌≡◌, refl, sym, ap, ◌∙◌}
-use mathlib.Core.Bool.{Bool, true, false, cond}
+use mathlib.Core.Bool.{Bool, true, false, cond, not, ◌||◌}
 use mathlib.Core.List.{List, [], ◌∷◌}
 use borrow.Author.Tests.{eqb-true, eqb-false}
 use lib.Dec.{eqb}
 use lib.ListN.{length}
+use Rattle.std.specs.List.{list_any}
+use Rattle.std.proofs.lemmas.Bool.Decides.{nat_tests}
 use Rattle.rng_util.specs.Draws.{usize_of}
-use Rattle.rng_util.specs.Gen.{draw_of, made}
+use Rattle.rng_util.specs.Gen.{draw_of, Made, made}
 use Rattle.rng_util.specs.declared.Gen.{Gen}
-use Rattle.rng_util.specs.declared.Drawn.{Drawn}
-use Rattle.rng_util.proofs.Parts.{left, none}
 use Rattle.evolution.specs.Select.{is_free, lowest_free, select_from}
+
+-- ---- the code's test of what is taken
+
+eqb_flip : (a b : ℕ) → eqb a b ≡ eqb b a
+eqb_flip a b = grind (arith, nat_tests)
+
+pub free_is : (ts : List ℕ) (r : ℕ) → not (list_any (λ (t : ℕ). eqb t r) ts) ≡ is_free ts r
+unfolding is_free
+free_is [] r = refl
+free_is (t ∷ ts) r = rw (eqb_flip t r) (go (eqb r t) (free_is ts r))
+  where
+    go : (b : Bool) → not (list_any (λ (t : ℕ). eqb t r) ts) ≡ is_free ts r → not (b || list_any (λ (t : ℕ). eqb t r) ts) ≡ cond b false (is_free ts r)
+    go true e = refl
+    go false e = e
 
 -- ---- the loop, a draw at a time
 
 module _ (N : ℕ) (ts : List ℕ) (k : ℕ) (g : Gen) where
-  module _ (d : Drawn) (i : ℕ) (r : Bool) (h : k < 1024) (e : d ≡ draw_of g) (q : i ≡ usize_of d.output N) (f : r ≡ is_free ts i) where
-    index_is : i ≡ usize_of (draw_of g).output N
-    index_is = q ∙ ap (λ (x : Drawn). usize_of x.output N) e
+  module _ (o i : ℕ) (g' : Gen) (r : Bool) (h : k < 1024) (e : made o g' ≡ draw_of g) (q : i ≡ usize_of o N) (f : r ≡ is_free ts i) where
+    left : 1024 - k ≡ suc (1024 - (k + 1))
+    left = omega arith
 
-    free-is : (t : Bool) → r ≡ t → is_free ts (usize_of (draw_of g).output N) ≡ t
+    index_is : i ≡ usize_of (draw_of g).out N
+    index_is = q ∙ ap (λ (x : Made ℕ). usize_of x.out N) e
+
+    after-is : (draw_of g).after ≡ g'
+    after-is = ap (λ (x : Made ℕ). x.after) (sym e)
+
+    free-is : (t : Bool) → r ≡ t → is_free ts (usize_of (draw_of g).out N) ≡ t
     free-is t p = ap (is_free ts) (sym index_is) ∙ sym f ∙ p
 
-    pub select_yes : r ≡ true → select_from N ts (1024 - k) g ≡ made i d.after
+    pub select_yes : r ≡ true → select_from N ts (1024 - k) g ≡ made i g'
     unfolding select_from
-    select_yes p = rw (left 1024 k h, free-is true p, index_is, e)
+    select_yes p = rw (left, free-is true p, ← index_is, after-is)
 
-    pub select_no : r ≡ false → select_from N ts (1024 - k) g ≡ select_from N ts (1024 - (k + 1)) d.after
+    pub select_no : r ≡ false → select_from N ts (1024 - k) g ≡ select_from N ts (1024 - (k + 1)) g'
     unfolding select_from
-    select_no p = rw (left 1024 k h, free-is false p, e)
+    select_no p = rw (left, free-is false p, after-is)
 
   pub select-end : (r : ℕ) → 1024 ≤ k → r ≡ lowest_free ts → select_from N ts (1024 - k) g ≡ made r g
   unfolding select_from
-  select-end r h e = rw (none 1024 k h, e)
+  select-end r h e = let none : 1024 - k ≡ 0 = omega arith in rw (none, e)
 
 -- ---- the lowest allowed index exists
 
@@ -110,55 +130,31 @@ module _ (N : ℕ) (ts : List ℕ) where
   pub select-free : length ts ≤ 3 → (k : ℕ) (g : Gen) → is_free ts (select_from N ts k g).out ≡ true
   unfolding select_from
   select-free h zero g = lowest-free ts h
-  select-free h (suc k) g = go (is_free ts (usize_of (draw_of g).output N)) refl (select-free h k (draw_of g).after)
+  select-free h (suc k) g = go (is_free ts (usize_of (draw_of g).out N)) refl (select-free h k (draw_of g).after)
     where
-      go : (t : Bool) → is_free ts (usize_of (draw_of g).output N) ≡ t → is_free ts (select_from N ts k (draw_of g).after).out ≡ true
-          → is_free ts (cond t (made (usize_of (draw_of g).output N) (draw_of g).after) (select_from N ts k (draw_of g).after)).out ≡ true
+      go : (t : Bool) → is_free ts (usize_of (draw_of g).out N) ≡ t → is_free ts (select_from N ts k (draw_of g).after).out ≡ true
+          → is_free ts (cond t (made (usize_of (draw_of g).out N) (draw_of g).after) (select_from N ts k (draw_of g).after)).out ≡ true
       go true e r = e
       go false e r = r
 
   pub select-below : 4 ≤ N → (k : ℕ) (g : Gen) → (select_from N ts k g).out < N
   unfolding select_from
   select-below h zero g = lowest-below N ts h
-  select-below h (suc k) g = go (is_free ts (usize_of (draw_of g).output N)) (select-below h k (draw_of g).after)
+  select-below h (suc k) g = go (is_free ts (usize_of (draw_of g).out N)) (select-below h k (draw_of g).after)
     where
-      go : (t : Bool) → (select_from N ts k (draw_of g).after).out < N → (cond t (made (usize_of (draw_of g).output N) (draw_of g).after) (select_from N ts k (draw_of g).after)).out < N
-      go true r = let p : 0 < N = omega arith in mod-lt (draw_of g).output p
+      go : (t : Bool) → (select_from N ts k (draw_of g).after).out < N → (cond t (made (usize_of (draw_of g).out N) (draw_of g).after) (select_from N ts k (draw_of g).after)).out < N
+      go true r = let p : 0 < N = omega arith in mod-lt (draw_of g).out p
       go false r = r
 
   -- by at most k draws
   pub select-draws : (k : ℕ) (g : Gen) → (select_from N ts k g).after.draws ≤ g.draws + k
   unfolding select_from draw_of
   select-draws zero g = omega arith
-  select-draws (suc k) g = go (is_free ts (usize_of (draw_of g).output N)) (usize_of (draw_of g).output N) (select-draws k (draw_of g).after)
+  select-draws (suc k) g = go (is_free ts (usize_of (draw_of g).out N)) (usize_of (draw_of g).out N) (select-draws k (draw_of g).after)
     where
       go : (t : Bool) (i : ℕ) → (select_from N ts k (draw_of g).after).after.draws ≤ g.draws + 1 + k → (cond t (made i (draw_of g).after) (select_from N ts k (draw_of g).after)).after.draws ≤ g.draws + suc k
       go true i r = omega arith
       go false i r = omega arith
-
--- ---- which numbers are taken, and not how often, decides
-
-module _ (N : ℕ) (ss ts : List ℕ) (same : (r : ℕ) → is_free ss r ≡ is_free ts r) where
-  lowest-same : lowest_free ss ≡ lowest_free ts
-  unfolding lowest_free
-  lowest-same = rw (same 0, same 1, same 2)
-
-  pub select-same : (k : ℕ) (g : Gen) → select_from N ss k g ≡ select_from N ts k g
-  unfolding select_from
-  select-same zero g = rw lowest-same
-  select-same (suc k) g = rw (same (usize_of (draw_of g).output N), select-same k (draw_of g).after)
-
-twice : (t u : Bool) → cond t false (cond t false u) ≡ cond t false u
-twice true u = refl
-twice false u = refl
-
-pub once-free : (a r : ℕ) → is_free (a ∷ a ∷ a ∷ []) r ≡ is_free (a ∷ []) r
-unfolding is_free
-once-free a r = twice (eqb r a) (cond (eqb r a) false true) ∙ twice (eqb r a) true
-
-pub both-free : (a b r : ℕ) → is_free (a ∷ b ∷ b ∷ []) r ≡ is_free (a ∷ b ∷ []) r
-unfolding is_free
-both-free a b r = ap (λ (u : Bool). cond (eqb r a) false u) (twice (eqb r b) true)
 
 -- a free index differs from each that is taken
 pub free-first : (t : ℕ) (ts : List ℕ) (r : ℕ) → is_free (t ∷ ts) r ≡ true → r ≡ t → ⊥

@@ -1,7 +1,6 @@
 pub mod Free
 pub mod Apart
-pub mod Flat
-pub mod Trials
 pub mod Draws
+pub mod Trials
 pub mod Ceiling
 pub mod Paper

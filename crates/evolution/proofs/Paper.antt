@@ -20,10 +20,10 @@ unfolding mutant_entry paper_mutant
 rand1-is-papers F x b x1 x2 x3 = refl
 
 -- an entry of a trial vector is the paper's, clamped, unless the drawn unit is CR
-pub cross-is-papers : (CR v x : Float) (b : Bounds) (star j : ℕ) (g : Gen) → eq (unit_of (draw_of g).output) CR ≡ false
-    → (cross_entry CR star v x b j g).out ≡ judged_entry b (paper_cross CR (eqb j star) (unit_of (draw_of g).output) v x)
+pub cross-is-papers : (CR v x : Float) (b : Bounds) (star j : ℕ) (g : Gen) → eq (unit_of (draw_of g).out) CR ≡ false
+    → (cross_entry CR star v x b j g).out ≡ judged_entry b (paper_cross CR (eqb j star) (unit_of (draw_of g).out) v x)
 unfolding cross_entry paper_cross le
-cross-is-papers CR v x b star j g e = go (eqb j star) (lt (unit_of (draw_of g).output) CR) (eq (unit_of (draw_of g).output) CR) e
+cross-is-papers CR v x b star j g e = go (eqb j star) (lt (unit_of (draw_of g).out) CR) (eq (unit_of (draw_of g).out) CR) e
   where
     go : (s below same : Bool) → same ≡ false
         → (cond s (made (judged_entry b v) g) (made (judged_entry b (cond below v x)) (draw_of g).after)).out ≡ judged_entry b (cond (s || (below || same)) v x)
@@ -66,7 +66,7 @@ equal-not-below (fin s m f) (inf t) e = absurd (true≢false (sym e))
 equal-not-below (fin s m f) (fin t n d) e = level-not-below s (m * up f * down d) t (n * up d * down f) e
 
 -- where the drawn unit is CR, step 4 takes the parent's entry, and the paper the mutant's
-pub cross-at-rate : (CR v x : Float) (b : Bounds) (star j : ℕ) (g : Gen) → eqb j star ≡ false → eq (unit_of (draw_of g).output) CR ≡ true
-    → ((cross_entry CR star v x b j g).out ≡ judged_entry b x) × (paper_cross CR (eqb j star) (unit_of (draw_of g).output) v x ≡ v)
+pub cross-at-rate : (CR v x : Float) (b : Bounds) (star j : ℕ) (g : Gen) → eqb j star ≡ false → eq (unit_of (draw_of g).out) CR ≡ true
+    → ((cross_entry CR star v x b j g).out ≡ judged_entry b x) × (paper_cross CR (eqb j star) (unit_of (draw_of g).out) v x ≡ v)
 unfolding cross_entry paper_cross le
-cross-at-rate CR v x b star j g f e = rw (f, equal-not-below (unit_of (draw_of g).output) CR e, e) (refl, refl)
+cross-at-rate CR v x b star j g f e = rw (f, equal-not-below (unit_of (draw_of g).out) CR e, e) (refl, refl)

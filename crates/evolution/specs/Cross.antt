@@ -19,7 +19,7 @@ unfoldable pub cross_entry : Float → ℕ → Float → Float → Bounds → �
 cross_entry CR star v x b j g =
     cond (eqb j star)
     (made (judged_entry b v) g)
-    (made (judged_entry b (cond (lt (unit_of (draw_of g).output) CR) v x)) (draw_of g).after)
+    (made (judged_entry b (cond (lt (unit_of (draw_of g).out) CR) v x)) (draw_of g).after)
 
 -- entry j, between its dimension's bounds
 abbrev pub cross_at : Float → ℕ → (ℕ → Float) → (ℕ → Float) → Space → ℕ → Gen → Made Float

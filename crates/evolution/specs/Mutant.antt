@@ -16,6 +16,10 @@ use Rattle.evolution.specs.declared.DEStrategy.TheVariants.{Rand1, Best1, Curren
 abbrev pub no_member : Member
 no_member = record { candidate = record { x = []; choices = [] }; value = nan }
 
+-- entry j of a vector that is in an array
+abbrev pub in_row : List Float → ℕ → Float
+in_row row j = get_or row j nan
+
 -- the parents' entries
 abbrev pub entries : List Member → ℕ → ℕ → Float
 entries ps r j = get_or (get_or ps r no_member).candidate.x j nan
@@ -32,7 +36,7 @@ abbrev pub mutant_at : Setup → (ℕ → ℕ → Float) → ℕ → ℕ → Ind
 mutant_at S x best i t j = mutant_entry S.strategy S.mutation_factor (x i j) (x best j) (x t.r1 j) (x t.r2 j) (x t.r3 j)
 
 -- the indices of slot i, of N slots: as many as the strategy asks for
-abbrev pub indices_for : Setup → ℕ → ℕ → Gen → Indices
+abbrev pub indices_for : Setup → ℕ → ℕ → Gen → Made Indices
 indices_for S N i g = indices_of (index_count S.strategy) N i g
 
 -- the n entries of the mutant
@@ -41,4 +45,4 @@ mutant_of S x best i n t = listed (mutant_at S x best i t) n 0
 
 -- "Mutation per slot i": the indices are drawn, and the mutant is made of the vectors that they name
 unfoldable pub mutated : Setup → (ℕ → ℕ → Float) → ℕ → ℕ → ℕ → ℕ → Gen → Made (List Float)
-mutated S x N best i n g = made (mutant_of S x best i n (indices_for S N i g)) (indices_for S N i g).after
+mutated S x N best i n g = made (mutant_of S x best i n (indices_for S N i g).out) (indices_for S N i g).after

@@ -20,7 +20,7 @@ lowest_free ts = cond (is_free ts 0) 0 (cond (is_free ts 1) 1 (cond (is_free ts 
 unfoldable pub select_from : ℕ → List ℕ → ℕ → Gen → Made ℕ
 select_from N ts zero g = made (lowest_free ts) g
 select_from N ts (suc k) g =
-    cond (is_free ts (usize_of (draw_of g).output N)) (made (usize_of (draw_of g).output N) (draw_of g).after) (select_from N ts k (draw_of g).after)
+    cond (is_free ts (usize_of (draw_of g).out N)) (made (usize_of (draw_of g).out N) (draw_of g).after) (select_from N ts k (draw_of g).after)
 
 -- "after 1,024 rejected draws for one index the lowest allowed index is taken"
 abbrev pub select_index : ℕ → List ℕ → Gen → Made ℕ
@@ -44,11 +44,11 @@ abbrev pub third_index : ℕ → ℕ → ℕ → Made ℕ → Made ℕ → Made 
 third_index count N i a b = cond (eqb count 3) (select_index N (i ∷ a.out ∷ b.out ∷ []) b.after) (made i b.after)
 
 -- together, with the generator after them
-abbrev pub three_of : Made ℕ → Made ℕ → Made ℕ → Indices
-three_of a b c = record { r1 = a.out; r2 = b.out; r3 = c.out; after = c.after }
+abbrev pub three_of : Made ℕ → Made ℕ → Made ℕ → Made Indices
+three_of a b c = made (record { r1 = a.out; r2 = b.out; r3 = c.out }) c.after
 
 -- the indices of slot i, of N slots
-unfoldable pub indices_of : ℕ → ℕ → ℕ → Gen → Indices
+unfoldable pub indices_of : ℕ → ℕ → ℕ → Gen → Made Indices
 indices_of count N i g =
     let a = first_index N i g in
     let b = second_index N i a in

@@ -14,10 +14,10 @@ use Rattle.evolution.specs.declared.Member.{Member}
 use Rattle.evolution.specs.declared.Setup.{Setup}
 
 -- "Crossover: one index j* is drawn below n", after the indices t of slot i; its mutant and its parent are crossed
-abbrev pub cross_with : Setup → (ℕ → ℕ → Float) → ℕ → Space → ℕ → Indices → Made (List Float)
+abbrev pub cross_with : Setup → (ℕ → ℕ → Float) → ℕ → Space → ℕ → Made Indices → Made (List Float)
 cross_with S x best s i t =
     let d = draw_of t.after in
-    crossed S.crossover_rate (usize_of d.output s.n) (mutant_at S x best i t) (x i) s d.after
+    crossed S.crossover_rate (usize_of d.out s.n) (mutant_at S x best i t.out) (x i) s d.after
 
 -- the trial vector of slot i, of N slots: mutation, crossover, "Then choices as in 2"
 unfoldable pub trial_of : Setup → (ℕ → ℕ → Float) → ℕ → ℕ → Space → ℕ → Gen → Made Candidate

@@ -4,14 +4,17 @@
 pub mod mutant;
 pub mod select;
 
-ghost use Rattle.std.specs.Prelude.{◌≡◌, ◌<◌, ◌≤◌, ◌^◌, take};
-ghost use Rattle.candidates.specs.Records.{entry_rec, entries_rec, candidate_rec, candidates_rec};
+ghost use Rattle.std.specs.Prelude.{◌≡◌, ◌<◌, ◌≤◌, ◌^◌, length};
+ghost use Rattle.rng_util.specs.Gen.{made};
+ghost use Rattle.rng_util.specs.Many.{padded};
+ghost use Rattle.common.specs.Bounds.{zero_f};
+ghost use Rattle.candidates.specs.Candidate.{blank_candidate};
+ghost use Rattle.evolution.specs.Mutant.{in_row, entries};
 ghost use Rattle.evolution.specs.Cross.{judged_entry, cross_entry, crossed};
-ghost use Rattle.evolution.specs.Flat.{in_row, in_flat};
 ghost use Rattle.evolution.specs.Trial.{trial_of, trial_vectors, next_candidates};
 
-use crate::mutant::{create_mutant_with_rng, population_entries};
-use candidates::{Candidate, DrawnCandidate, DrawnCandidates, DrawnEntries, DrawnEntry, Space};
+use crate::mutant::create_mutant_with_rng;
+use candidates::{Candidate, Space};
 use common::Bounds;
 use rng_util::Gen;
 
@@ -22,20 +25,13 @@ pub enum DEStrategy {
     CurrentToBest1,
 }
 
-// `Option<usize>` of the Rust.
-#[derive(Clone, Copy)]
-pub enum PopulationSize {
-    Unset,
-    Of(u64),
-}
-
 // The seed is the generator's first word.
 #[derive(Clone, Copy)]
 pub struct Setup {
     pub mutation_factor: f64,
     pub crossover_rate: f64,
     pub strategy: DEStrategy,
-    pub population_size: PopulationSize,
+    pub population_size: Option<u64>,
     pub seed: u64,
 }
 
@@ -47,19 +43,12 @@ pub struct Member {
     pub value: f64,
 }
 
-// What was drawn, and the generator after it.
-#[derive(Clone, Copy)]
-pub struct DrawnIndex {
-    pub index: usize,
-    pub after: Gen,
-}
-
+// The slots that a mutant is made of.
 #[derive(Clone, Copy)]
 pub struct Indices {
     pub r1: usize,
     pub r2: usize,
     pub r3: usize,
-    pub after: Gen,
 }
 
 // An entry of a trial vector is clamped to its dimension's bounds.
@@ -70,6 +59,7 @@ pub fn clamp_to_bounds(value: f64, bounds: Bounds) -> f64
 }
 
 // Entry j of a trial vector: the mutant's at j*, without a draw, or where a unit is below CR; else the parent's.
+#[tactic(auto, unfolding(crate::specs::Cross::cross_entry))]
 fn cross_entry(
     rate: f64,
     j: usize,
@@ -77,127 +67,89 @@ fn cross_entry(
     mutant: f64,
     x: f64,
     bounds: Bounds,
-    from: Gen,
-) -> DrawnEntry
-    requires { from.draws < 2 ^ 63 }
-    ensures { result ≡ entry_rec (cross_entry rate j_rand mutant x bounds j from) }
+    rng: &mut Gen,
+) -> f64
+    requires { rng.old.draws < 2 ^ 63 }
+    ensures { made result rng.new ≡ cross_entry rate j_rand mutant x bounds j rng.old }
 {
-    let own = j == j_rand;
-    if own {
-        let entry = clamp_to_bounds(mutant, bounds);
-        return DrawnEntry { entry, after: from };
+    if j == j_rand || rng_util::unit(rng.draw()) < rate {
+        clamp_to_bounds(mutant, bounds)
+    } else {
+        clamp_to_bounds(x, bounds)
     }
-    let d = rng_util::draw(from);
-    let u = rng_util::unit(d.output);
-    let after = d.after;
-    if u < rate {
-        let entry = clamp_to_bounds(mutant, bounds);
-        return DrawnEntry { entry, after };
-    }
-    let entry = clamp_to_bounds(x, bounds);
-    DrawnEntry { entry, after }
 }
 
-// Binomial crossover of slot i's parent with its mutant.
+// Binomial crossover of a parent with its mutant.
 fn crossover(
     rate: f64,
     j_rand: usize,
-    mutant: [f64; 16],
-    rows: &[f64; 2560],
-    i: usize,
-    space: Space,
-    from: Gen,
-) -> DrawnEntries
-    requires { (i < 160) × (space.n ≤ 16) × (from.draws < 2 ^ 62) }
-    ensures { result ≡ entries_rec (crossed rate j_rand (in_row mutant) (in_flat rows.now i) space from) }
+    mutant: &[f64; 16],
+    parent: &[f64; 16],
+    space: &Space,
+    rng: &mut Gen,
+) -> [f64; 16]
+    requires { (space.now.n ≤ 16) × (rng.old.draws < 2 ^ 62) }
+    ensures { made result rng.new ≡ padded 16 zero_f (crossed rate j_rand (in_row mutant.now) (in_row parent.now) space.now rng.old) }
 {
-    let n = space.n;
-    let own = 16 * i;
-    let mut x = [0.0f64; 16];
-    let mut g = from;
-    let mut j: usize = 0;
-    while j < n {
-        let b = space.bounds[j];
-        let d = cross_entry(rate, j, j_rand, mutant[j], rows[own + j], b, g);
-        x[j] = d.entry;
-        g = d.after;
-        j += 1;
+    let mut x = [0.0; 16];
+    for j in 0..space.n {
+        x[j] = cross_entry(rate, j, j_rand, mutant[j], parent[j], space.bounds[j], rng);
     }
-    DrawnEntries { x, after: g }
+    x
 }
 
 // The trial vector of slot i: mutation, crossover, then choices.
 fn trial_vector(
-    setup: Setup,
-    rows: &[f64; 2560],
-    size: usize,
+    setup: &Setup,
+    parents: &[Member],
     best: usize,
     i: usize,
-    space: Space,
-    from: Gen,
-) -> DrawnCandidate
-    requires { (4 ≤ size) × (size ≤ 160) × (best < size) × (i < size) × (0 < space.n) × (space.n ≤ 16) × (space.n_dims ≤ 16) × (from.draws < 2 ^ 60) }
-    ensures { result ≡ candidate_rec (trial_of setup (in_flat rows.now) size best space i from) }
+    space: &Space,
+    rng: &mut Gen,
+) -> Candidate
+    requires { (4 ≤ length parents.now) × (best < length parents.now) × (i < length parents.now) × (0 < space.now.n) × (space.now.n ≤ 16) × (space.now.n_dims ≤ 16) × (rng.old.draws < 2 ^ 60) }
+    ensures { made result rng.new ≡ trial_of setup.now (entries parents.now) (length parents.now) best space.now i rng.old }
 {
-    let n = space.n;
-    let m = create_mutant_with_rng(setup, rows, size, best, i, n, from);
-    let d = rng_util::draw(m.after);
-    let j_rand = rng_util::usize_below(d.output, n as u64);
-    let mutant = m.x;
-    let rate = setup.crossover_rate;
-    let row = crossover(rate, j_rand as usize, mutant, rows, i, space, d.after);
-    let cs = candidates::random_choices(space, row.after);
-    let x = row.x;
-    let choices = cs.choices;
-    let candidate = Candidate { x, choices };
-    let after = cs.after;
-    DrawnCandidate { candidate, after }
+    let mutant = create_mutant_with_rng(setup, parents, best, i, space.n, rng);
+    let j_rand = rng_util::usize_below(rng.draw(), space.n as u64) as usize;
+    let parent = &parents[i].candidate.x;
+    let x = crossover(setup.crossover_rate, j_rand, &mutant, parent, space, rng);
+    let choices = candidates::random_choices(space, rng);
+    Candidate { x, choices }
 }
 
-// Trial vectors for the slots 0 to size - 1.
+// Trial vectors for the slots, in order.
 pub fn generate_trial_vectors(
-    setup: Setup,
-    parents: [Member; 160],
-    size: usize,
+    setup: &Setup,
+    parents: &[Member],
     best: usize,
-    space: Space,
-    from: Gen,
-) -> DrawnCandidates
-    requires { (4 ≤ size) × (size ≤ 160) × (best < size) × (0 < space.n) × (space.n ≤ 16) × (space.n_dims ≤ 16) × (from.draws < 2 ^ 59) }
-    ensures { result ≡ candidates_rec (trial_vectors setup (take size parents) best space from) }
+    space: &Space,
+    rng: &mut Gen,
+) -> [Candidate; 224]
+    requires { (4 ≤ length parents.now) × (length parents.now ≤ 160) × (best < length parents.now) × (0 < space.now.n) × (space.now.n ≤ 16) × (space.now.n_dims ≤ 16) × (rng.old.draws < 2 ^ 59) }
+    ensures { made result rng.new ≡ padded 224 blank_candidate (trial_vectors setup.now parents.now best space.now rng.old) }
 {
-    let rows = population_entries(parents, size);
-    let blank = candidates::blank_candidate();
-    let mut candidates = [blank; 224];
-    let mut g = from;
-    let mut i: usize = 0;
-    while i < size {
-        let d = trial_vector(setup, &rows, size, best, i, space, g);
-        let c = d.candidate;
-        candidates[i] = c;
-        g = d.after;
-        i += 1;
+    let mut candidates = [Candidate::blank(); 224];
+    for i in 0..parents.len() {
+        candidates[i] = trial_vector(setup, parents, best, i, space, rng);
     }
-    DrawnCandidates {
-        candidates,
-        after: g,
-    }
+    candidates
 }
 
 // The candidates of a later generation: trial vectors if there is a continuous dimension, else random candidates.
+#[tactic(auto, unfolding(crate::specs::Trial::next_candidates))]
 pub fn next_candidates(
-    setup: Setup,
-    parents: [Member; 160],
-    size: usize,
+    setup: &Setup,
+    parents: &[Member],
     best: usize,
-    space: Space,
-    from: Gen,
-) -> DrawnCandidates
-    requires { (4 ≤ size) × (size ≤ 160) × (best < size) × (space.n ≤ 16) × (space.n_dims ≤ 16) × (from.draws < 2 ^ 59) }
-    ensures { result ≡ candidates_rec (next_candidates setup (take size parents) best space from) }
+    space: &Space,
+    rng: &mut Gen,
+) -> [Candidate; 224]
+    requires { (4 ≤ length parents.now) × (length parents.now ≤ 160) × (best < length parents.now) × (space.now.n ≤ 16) × (space.now.n_dims ≤ 16) × (rng.old.draws < 2 ^ 59) }
+    ensures { made result rng.new ≡ padded 224 blank_candidate (next_candidates setup.now parents.now best space.now rng.old) }
 {
     if space.n == 0 {
-        return candidates::generate_initial_population(space, size, from);
+        return candidates::generate_initial_population(space, parents.len(), rng);
     }
-    generate_trial_vectors(setup, parents, size, best, space, from)
+    generate_trial_vectors(setup, parents, best, space, rng)
 }

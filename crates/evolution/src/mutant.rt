@@ -1,33 +1,16 @@
 // The mutant of a slot (`create_mutant_with_rng`): double arithmetic, one rounding per operation.
-ghost use Rattle.std.specs.Prelude.{◌≡◌, ◌<◌, ◌≤◌, ◌^◌, take};
-ghost use Rattle.candidates.specs.Records.{row_rec, entries_rec};
-ghost use Rattle.evolution.specs.Mutant.{mutant_entry, mutant_of, mutated};
-ghost use Rattle.evolution.specs.Flat.{flat_of, in_flat};
+ghost use Rattle.std.specs.Prelude.{◌≡◌, ◌<◌, ◌≤◌, ◌^◌, length};
+ghost use Rattle.rng_util.specs.Gen.{made};
+ghost use Rattle.rng_util.specs.Many.{padded, pad_to};
+ghost use Rattle.common.specs.Bounds.{zero_f};
+ghost use Rattle.evolution.specs.Mutant.{entries, mutant_entry, mutant_of, mutated};
 
 use crate::select::{index_count, select_random_indices};
 use crate::{DEStrategy, Indices, Member, Setup};
-use candidates::DrawnEntries;
 use rng_util::Gen;
 
-// The parents' entries in one array, made once for a generation: entry j of slot r at 16 r + j.
-pub fn population_entries(parents: [Member; 160], size: usize) -> [f64; 2560]
-    requires { size ≤ 160 }
-    ensures { result ≡ flat_of parents size }
-{
-    let end = 16 * size;
-    let mut rows = [0.0f64; 2560];
-    let mut k: usize = 0;
-    while k < end {
-        let m = parents[k / 16];
-        let c = m.candidate;
-        let x = c.x;
-        rows[k] = x[k % 16];
-        k += 1;
-    }
-    rows
-}
-
 // One entry of the mutant, of the entries of the slot, the best slot and the drawn ones.
+#[tactic(auto, unfolding(crate::specs::Mutant::mutant_entry))]
 fn mutant_entry(strategy: DEStrategy, f: f64, x: f64, b: f64, x1: f64, x2: f64, x3: f64) -> f64
     ensures { result ≡ mutant_entry strategy f x b x1 x2 x3 }
 {
@@ -40,57 +23,42 @@ fn mutant_entry(strategy: DEStrategy, f: f64, x: f64, b: f64, x1: f64, x2: f64, 
 
 // The mutant's n entries.
 fn create_mutant(
-    setup: Setup,
-    rows: &[f64; 2560],
+    setup: &Setup,
+    parents: &[Member],
     best: usize,
     target: usize,
     n: usize,
     t: Indices,
 ) -> [f64; 16]
-    requires { (best < 160) × (target < 160) × (n ≤ 16) × (t.r1 < 160) × (t.r2 < 160) × (t.r3 < 160) }
-    ensures { result ≡ row_rec (mutant_of setup (in_flat rows.now) best target n t) }
+    requires { (best < length parents.now) × (target < length parents.now) × (n ≤ 16) × (t.r1 < length parents.now) × (t.r2 < length parents.now) × (t.r3 < length parents.now) }
+    ensures { result ≡ pad_to 16 zero_f (mutant_of setup.now (entries parents.now) best target n t) }
 {
-    let strategy = setup.strategy;
+    let x = &parents[target].candidate.x;
+    let b = &parents[best].candidate.x;
+    let x1 = &parents[t.r1].candidate.x;
+    let x2 = &parents[t.r2].candidate.x;
+    let x3 = &parents[t.r3].candidate.x;
     let f = setup.mutation_factor;
-    let own = 16 * target;
-    let b = 16 * best;
-    let a1 = 16 * t.r1;
-    let a2 = 16 * t.r2;
-    let a3 = 16 * t.r3;
-    let mut v = [0.0f64; 16];
-    let mut j: usize = 0;
-    while j < n {
-        v[j] = mutant_entry(
-            strategy,
-            f,
-            rows[own + j],
-            rows[b + j],
-            rows[a1 + j],
-            rows[a2 + j],
-            rows[a3 + j],
-        );
-        j += 1;
+    let mut v = [0.0; 16];
+    for j in 0..n {
+        v[j] = mutant_entry(setup.strategy, f, x[j], b[j], x1[j], x2[j], x3[j]);
     }
     v
 }
 
 // The indices are drawn, and the mutant is made of the parents that they name.
 pub fn create_mutant_with_rng(
-    setup: Setup,
-    rows: &[f64; 2560],
-    size: usize,
+    setup: &Setup,
+    parents: &[Member],
     best: usize,
     target: usize,
     n: usize,
-    from: Gen,
-) -> DrawnEntries
-    requires { (4 ≤ size) × (size ≤ 160) × (best < size) × (target < size) × (n ≤ 16) × (from.draws < 2 ^ 61) }
-    ensures { result ≡ entries_rec (mutated setup (in_flat rows.now) size best target n from) }
+    rng: &mut Gen,
+) -> [f64; 16]
+    requires { (4 ≤ length parents.now) × (best < length parents.now) × (target < length parents.now) × (n ≤ 16) × (rng.old.draws < 2 ^ 61) }
+    ensures { made result rng.new ≡ padded 16 zero_f (mutated setup.now (entries parents.now) (length parents.now) best target n rng.old) }
 {
-    let strategy = setup.strategy;
-    let count = index_count(strategy);
-    let t = select_random_indices(from, size, count, target);
-    let x = create_mutant(setup, rows, best, target, n, t);
-    let after = t.after;
-    DrawnEntries { x, after }
+    let count = index_count(setup.strategy);
+    let t = select_random_indices(parents.len(), count, target, rng);
+    create_mutant(setup, parents, best, target, n, t)
 }

@@ -1,18 +1,15 @@
 -- The running best of the Rust is the document's best slot, the first least value's, 0 if all are +infinity: for values that are not NaN.
 use Prim.Native.Nat.{ℕ, zero, suc, ◌+◌, ◌<◌, ◌≤◌}
-use mathlib.Core.Path.{◌≡◌, refl, sym, ap, ◌∙◌, subst}
+use mathlib.Core.Path.{◌≡◌, refl, sym, ◌∙◌, subst}
 use mathlib.Core.Logic.{◌≢◌}
 use mathlib.Core.Bool.{Bool, true, false, cond, ◌&&◌}
 use mathlib.Core.List.Memᴰ
 use mathlib.Core.List.{List, [], ◌∷◌}
-use native.Mathlib.Nat.{le_of_suc-le-suc, not-suc-le-zero}
 use native.Mathlib.Omega.{arith}
 use lib.Dec.{T}
 use lib.Ieee.{Float, nan, inf, fin, lt, le, eq}
-use lib.ListN.{length, take, get_or, length-map}
-use lib.Seq.{length-take-le, get_or-take}
-use Rattle.evolution.specs.declared.Member.{Member}
-use Rattle.selection.specs.Best.{values, best_from, best_slot, least_value}
+use lib.ListN.{length}
+use Rattle.selection.specs.Best.{best_from, best_slot}
 use Rattle.ledger.specs.Words.{All}
 use Rattle.ledger.specs.Closing.{at_most, best_of}
 use Rattle.ledger.proofs.Lists.{T→true, true→T}
@@ -100,25 +97,3 @@ below-from (w ∷ ws) i v b n h l = go (lt w v) (below-from ws (i + 1) w i n (om
 pub best-below : (vs : List Float) → 1 ≤ length vs → best_slot vs < length vs
 unfolding best_slot
 best-below vs h = below-from vs 0 (inf false) 0 (length vs) (omega arith) (omega arith)
-
-pub best-in : (ps : List Member) (n : ℕ) → n ≤ length ps → 1 ≤ n → best_slot (values (take n ps)) < n
-best-in ps n h l =
-    let k : length (values (take n ps)) ≡ n = length-map (take n ps) _ ∙ length-take-le n ps h in
-    omega (arith, best-below (values (take n ps)) (omega arith))
-
--- ---- the least value, which the best slot has
-
-values-at : (ps : List Member) (i : ℕ) (z : Member) → i < length ps → get_or (values ps) i (inf false) ≡ (get_or ps i z).value
-values-at [] i z h = absurd (not-suc-le-zero h)
-values-at (p ∷ ps) zero z h = refl
-values-at (p ∷ ps) (suc i) z h = values-at ps i z (le_of_suc-le-suc h)
-
-pub least-read : (ps : List Member) (n b : ℕ) (z : Member) → n ≤ length ps → 1 ≤ n → b ≡ best_slot (values (take n ps)) → (get_or ps b z).value ≡ least_value (values (take n ps))
-least-read ps n b z h l e =
-    let k = best-in ps n h l in
-    ap (λ (i : ℕ). (get_or ps i z).value) e
-    ∙ ap (λ (m : Member). m.value) (sym (get_or-take n ps (best_slot (values (take n ps))) z k))
-    ∙ sym (values-at (take n ps) (best_slot (values (take n ps))) z (rw (length-take-le n ps h) k))
-
-pub least-none : (ps : List Member) (n : ℕ) → n ≡ 0 → inf false ≡ least_value (values (take n ps))
-least-none ps n e = sym (ap (λ (k : ℕ). least_value (values (take k ps))) e)

@@ -1,5 +1,4 @@
-pub mod Stays
-pub mod Slots
 pub mod Running
+pub mod Slots
 pub mod Best
 pub mod Paper

@@ -1,45 +1,60 @@
--- The slots of a closing, one by one: what a loop over them fills is the definition's list.
-use Prim.Native.Nat.{ℕ, zero, suc, ◌+◌, ◌≤◌}
-use native.Mathlib.Omega.{arith}
-use mathlib.Core.Path.{◌≡◌, refl, ap}
-use mathlib.Core.List.{List, [], ◌∷◌}
+-- The slots of a closing, one by one: how many there are, and what is in slot i.
+use Rattle.std.proofs.Common.{◌≡◌, ℕ, zero, suc, ◌+◌, ◌<◌, min, List, [], ◌∷◌, length, get_or, set, take, refl, sym, ap, ◌∙◌, arith}
+use Rattle.std.proofs.lemmas.List.{take_more}
 use lib.Ieee.{Float, nan}
-use lib.ListN.{length, get_or, take, drop}
-use Rattle.rng_util.specs.Many.{listed}
+use lib.Seq.{length-take-le}
+use Rattle.rng_util.proofs.Parts.{pad-put}
 use Rattle.candidates.specs.declared.Candidate.{Candidate}
-use Rattle.candidates.proofs.Lists.{next-drop}
 use Rattle.evolution.specs.Mutant.{no_member}
 use Rattle.evolution.specs.declared.Member.{Member}
+use Rattle.selection.specs.Records.{blank_member, members_rec}
 use Rattle.selection.specs.Select.{survivor_of, selected, stored}
 
--- what a read past the end of an array of candidates gives
+-- what a read past the end of a slice of candidates gives
 abbrev no_candidate : Candidate
 no_candidate = record { x = []; choices = [] }
 
-module _ (ps : List Member) (cs : List Candidate) (rs : List Float) where
-  abbrev pub slot_at : ℕ → Member
-  slot_at i = survivor_of (get_or ps i no_member) (get_or cs i no_candidate) (get_or rs i nan)
+-- slot i is filled
+slots-more : (ms : List Member) (i : ℕ) (m : Member) (population : List Member) → i < length ms → i < 160 → m ≡ get_or ms i no_member → population ≡ members_rec (take i ms) → set population i m ≡ members_rec (take (i + 1) ms)
+slots-more ms i m population h k e p =
+    let at : i ≡ length (take i ms) = sym (length-take-le i ms (omega arith)) in
+    (λ t. set (p t) (at t) (e t))
+    ∙ pad-put 160 blank_member (get_or ms i no_member) (take i ms) (omega (arith, at))
+    ∙ ap members_rec (sym (take_more ms i no_member h))
 
-  selected-from : (k i : ℕ) → i + k ≤ length ps → i + k ≤ length cs → i + k ≤ length rs → listed slot_at k i ≡ selected (take k (drop i ps)) (take k (drop i cs)) (take k (drop i rs))
-  unfolding listed selected
-  selected-from zero i a b c = refl
-  selected-from (suc k) i a b c =
-      rw (next-drop ps i no_member (omega arith), next-drop cs i no_candidate (omega arith), next-drop rs i nan (omega arith))
-      (ap (λ (l : List Member). slot_at i ∷ l) (selected-from k (i + 1) (omega arith) (omega arith) (omega arith)))
+pub stored-length : (cs : List Candidate) (rs : List Float) → length (stored cs rs) ≡ min (length cs) (length rs)
+unfolding stored
+stored-length [] rs = omega arith
+stored-length (c ∷ cs) [] = omega arith
+stored-length (c ∷ cs) (r ∷ rs) = omega (arith, stored-length cs rs)
 
-  pub selected-is : (n : ℕ) → n ≤ length ps → n ≤ length cs → n ≤ length rs → listed slot_at n 0 ≡ selected (take n ps) (take n cs) (take n rs)
-  selected-is n a b c = selected-from n 0 (omega arith) (omega arith) (omega arith)
+stored-read : (cs : List Candidate) (rs : List Float) (i : ℕ) → i < length cs → i < length rs → get_or (stored cs rs) i no_member ≡ record { candidate = get_or cs i no_candidate; value = get_or rs i nan }
+unfolding stored
+stored-read [] rs i h k = absurd (omega arith)
+stored-read (c ∷ cs) [] i h k = absurd (omega arith)
+stored-read (c ∷ cs) (r ∷ rs) zero h k = refl
+stored-read (c ∷ cs) (r ∷ rs) (suc i) h k = stored-read cs rs i (omega arith) (omega arith)
 
-module _ (cs : List Candidate) (rs : List Float) where
-  abbrev pub stored_at : ℕ → Member
-  stored_at i = record { candidate = get_or cs i no_candidate; value = get_or rs i nan }
+pub selected-length : (ps : List Member) (cs : List Candidate) (rs : List Float) → length (selected ps cs rs) ≡ min (min (length ps) (length cs)) (length rs)
+unfolding selected
+selected-length [] cs rs = omega arith
+selected-length (p ∷ ps) [] rs = omega arith
+selected-length (p ∷ ps) (c ∷ cs) [] = omega arith
+selected-length (p ∷ ps) (c ∷ cs) (r ∷ rs) = omega (arith, selected-length ps cs rs)
 
-  stored-from : (k i : ℕ) → i + k ≤ length cs → i + k ≤ length rs → listed stored_at k i ≡ stored (take k (drop i cs)) (take k (drop i rs))
-  unfolding listed stored
-  stored-from zero i b c = refl
-  stored-from (suc k) i b c =
-      rw (next-drop cs i no_candidate (omega arith), next-drop rs i nan (omega arith))
-      (ap (λ (l : List Member). stored_at i ∷ l) (stored-from k (i + 1) (omega arith) (omega arith)))
+selected-read : (ps : List Member) (cs : List Candidate) (rs : List Float) (i : ℕ) → i < length ps → i < length cs → i < length rs
+    → get_or (selected ps cs rs) i no_member ≡ survivor_of (get_or ps i no_member) (get_or cs i no_candidate) (get_or rs i nan)
+unfolding selected
+selected-read [] cs rs i h k l = absurd (omega arith)
+selected-read (p ∷ ps) [] rs i h k l = absurd (omega arith)
+selected-read (p ∷ ps) (c ∷ cs) [] i h k l = absurd (omega arith)
+selected-read (p ∷ ps) (c ∷ cs) (r ∷ rs) zero h k l = refl
+selected-read (p ∷ ps) (c ∷ cs) (r ∷ rs) (suc i) h k l = selected-read ps cs rs i (omega arith) (omega arith) (omega arith)
 
-  pub stored_is : (n : ℕ) → n ≤ length cs → n ≤ length rs → listed stored_at n 0 ≡ stored (take n cs) (take n rs)
-  stored_is n b c = stored-from n 0 (omega arith) (omega arith)
+pub stored_more : (cs : List Candidate) (rs : List Float) (i : ℕ) (population : List Member) → i < min (length cs) (length rs) → i < 160 → population ≡ members_rec (take i (stored cs rs))
+    → set population i (record { candidate = get_or cs i no_candidate; value = get_or rs i nan }) ≡ members_rec (take (i + 1) (stored cs rs))
+stored_more cs rs i population h k p = slots-more (stored cs rs) i _ population (omega (arith, stored-length cs rs)) k (sym (stored-read cs rs i (omega arith) (omega arith))) p
+
+pub selected_more : (ps : List Member) (cs : List Candidate) (rs : List Float) (i : ℕ) (m : Member) (population : List Member) → i < min (min (length ps) (length cs)) (length rs) → i < 160
+    → m ≡ survivor_of (get_or ps i no_member) (get_or cs i no_candidate) (get_or rs i nan) → population ≡ members_rec (take i (selected ps cs rs)) → set population i m ≡ members_rec (take (i + 1) (selected ps cs rs))
+selected_more ps cs rs i m population h k e p = slots-more (selected ps cs rs) i m population (omega (arith, selected-length ps cs rs)) k (e ∙ sym (selected-read ps cs rs i (omega arith) (omega arith) (omega arith))) p

@@ -6,27 +6,24 @@ ghost use Rattle.std.specs.Prelude.{◌≡◌, ◌≤◌, length, take};
 ghost use Rattle.selection.specs.Select.{judged, survivor_of, selected, stored};
 ghost use Rattle.selection.specs.Best.{values, best_slot, least_value};
 ghost use Rattle.selection.specs.Size.{size_of};
-ghost use Rattle.candidates.specs.Records.{row_rec};
 ghost use Rattle.selection.specs.Records.{blank_member, members_rec};
 
 use candidates::Candidate;
-use evolution::{Member, PopulationSize};
+use evolution::Member;
 
 // The user's size, raised to 4; unset, the larger of 15 and 10 for each continuous dimension.
-pub fn population_size(user: PopulationSize, n_continuous: usize) -> usize
+pub fn population_size(user: Option<u64>, n_continuous: usize) -> usize
     requires { n_continuous ≤ 16 }
     ensures { result ≡ size_of user n_continuous }
 {
     match user {
-        PopulationSize::Unset => {
-            let n = 10 * n_continuous;
-            if n < 15 { 15 } else { n }
-        }
-        PopulationSize::Of(n) => { if n < 4 { 4 } else { n as usize } }
+        None => usize::max(15, 10 * n_continuous),
+        Some(n) => u64::max(4, n) as usize,
     }
 }
 
 // Of two lent rows of n entries the one that stays: the trial's where its result is at most the parent's.
+#[tactic(auto, unfolding(crate::specs::Select::judged))]
 pub fn judge<'a>(
     parent: &'a [f64],
     trial: &'a [f64],
@@ -44,141 +41,96 @@ pub fn judge<'a>(
     }
 }
 
-// A row as an array, with zeros after it.
-fn copy_row(row: &[f64]) -> [f64; 16]
-    requires { length row.now ≤ 16 }
-    ensures { result ≡ row_rec row.now }
-{
-    let mut x = [0.0f64; 16];
-    let mut j: usize = 0;
-    while j < row.len() {
-        x[j] = row[j];
-        j += 1;
-    }
-    x
-}
-
-// The entries that stay.
-fn survivor_entries(
-    parent: Candidate,
-    trial: Candidate,
-    parent_value: f64,
-    trial_value: f64,
-) -> [f64; 16]
-    ensures { result ≡ judged parent.x trial.x parent_value trial_value }
-{
-    let row = judge(&parent.x, &trial.x, 16, parent_value, trial_value);
-    copy_row(row)
-}
-
 // What a slot holds after its trial's result: a result at most the parent's replaces vector, choices and value.
-fn survivor(parent: Member, trial: Candidate, res: f64) -> Member
-    ensures { result ≡ survivor_of parent trial res }
+#[tactic(auto, unfolding(crate::specs::Select::judged, crate::specs::Select::survivor_of))]
+fn survivor(parent: &Member, trial: &Candidate, res: f64) -> Member
+    ensures { result ≡ survivor_of parent.now trial.now res }
 {
-    let p = parent.candidate;
-    let x = survivor_entries(p, trial, parent.value, res);
+    let row = judge(&parent.candidate.x, &trial.x, 16, parent.value, res);
+    let mut x = [0.0; 16];
+    x.copy_from_slice(row);
     if res <= parent.value {
-        let choices = trial.choices;
-        let candidate = Candidate { x, choices };
-        return Member {
-            candidate,
+        Member {
+            candidate: Candidate {
+                x,
+                choices: trial.choices,
+            },
             value: res,
-        };
-    }
-    let choices = p.choices;
-    let candidate = Candidate { x, choices };
-    Member {
-        candidate,
-        value: parent.value,
+        }
+    } else {
+        Member {
+            candidate: Candidate {
+                x,
+                choices: parent.candidate.choices,
+            },
+            value: parent.value,
+        }
     }
 }
 
+// A slot that is unused.
 pub fn blank_member() -> Member
     ensures { result ≡ blank_member }
 {
-    let candidate = candidates::blank_candidate();
     Member {
-        candidate,
+        candidate: Candidate::blank(),
         value: 0.0,
     }
 }
 
 // The first closing stores candidates and results.
-pub fn initialize_population(
-    candidates: [Candidate; 224],
-    results: [f64; 160],
-    n: usize,
-) -> [Member; 160]
-    requires { n ≤ 160 }
-    ensures { result ≡ members_rec (stored (take n candidates) (take n results)) }
+pub fn initialize_population(candidates: &[Candidate], results: &[f64]) -> [Member; 160]
+    requires { length candidates.now ≤ 160 }
+    ensures { result ≡ members_rec (stored candidates.now results.now) }
 {
-    let blank = blank_member();
-    let mut population = [blank; 160];
-    let mut i: usize = 0;
-    while i < n {
-        let candidate = candidates[i];
-        let m = Member {
-            candidate,
+    let mut population = [blank_member(); 160];
+    for i in 0..usize::min(candidates.len(), results.len()) {
+        population[i] = Member {
+            candidate: candidates[i],
             value: results[i],
         };
-        population[i] = m;
-        i += 1;
     }
     population
 }
 
 // A later closing: each slot's result against its parent's.
 pub fn perform_selection(
-    parents: [Member; 160],
-    candidates: [Candidate; 224],
-    results: [f64; 160],
-    n: usize,
+    parents: &[Member],
+    candidates: &[Candidate],
+    results: &[f64],
 ) -> [Member; 160]
-    requires { n ≤ 160 }
-    ensures { result ≡ members_rec (selected (take n parents) (take n candidates) (take n results)) }
+    requires { length parents.now ≤ 160 }
+    ensures { result ≡ members_rec (selected parents.now candidates.now results.now) }
 {
-    let blank = blank_member();
-    let mut population = [blank; 160];
-    let mut i: usize = 0;
-    while i < n {
-        let p = parents[i];
-        let t = candidates[i];
-        let m = survivor(p, t, results[i]);
-        population[i] = m;
-        i += 1;
+    let n = usize::min(parents.len(), candidates.len());
+    let mut population = [blank_member(); 160];
+    for i in 0..usize::min(n, results.len()) {
+        population[i] = survivor(&parents[i], &candidates[i], results[i]);
     }
     population
 }
 
 // The first least value's slot; 0 if all are +infinity.
-pub fn best_slot(parents: [Member; 160], n: usize) -> usize
-    requires { n ≤ 160 }
-    ensures { result ≡ best_slot (values (take n parents)) }
+#[tactic(auto, using(crate::proofs::Running::best_more, crate::proofs::Running::best_all), unfolding(crate::specs::Best::best_slot))]
+pub fn best_slot(parents: &[Member]) -> usize
+    ensures { result ≡ best_slot (values parents.now) }
 {
-    let mut best_value = f64::from_bits(0x7ff0_0000_0000_0000);
-    let mut best: usize = 0;
-    let mut i: usize = 0;
-    while i < n {
-        let m = parents[i];
-        let v = m.value;
-        let k = i;
-        i += 1;
-        if v < best_value {
-            best_value = v;
-            best = k;
+    let mut best_value = f64::INFINITY;
+    let mut best = 0;
+    for (i, member) in parents.iter().enumerate() {
+        if member.value < best_value {
+            best_value = member.value;
+            best = i;
         }
     }
     best
 }
 
 // The least value of all slots, which the best slot has; +infinity where there is no slot.
-pub fn least_value(parents: [Member; 160], n: usize) -> f64
-    requires { n ≤ 160 }
-    ensures { result ≡ least_value (values (take n parents)) }
+pub fn least_value(parents: &[Member]) -> f64
+    ensures { result ≡ least_value (values parents.now) }
 {
-    if n == 0 {
-        return f64::from_bits(0x7ff0_0000_0000_0000);
-    }
-    let best = parents[best_slot(parents, n)];
-    best.value
+    parents
+        .get(best_slot(parents))
+        .map_or(f64::INFINITY, |best| best.value)
 }

@@ -1,22 +1,18 @@
-use native.Mathlib.Omega.{arith}
-use mathlib.Core.Path.{refl, ap, ◌∙◌}
+use Rattle.std.proofs.Common.{ap, ◌∙◌, arith}
 use borrow.Author.Rules.{rules}
-use Rattle.candidates.proofs.Fill.{fill-first, fill-again, fill-last}
-use Rattle.selection.specs.Records.{blank_member, members_rec}
-use Rattle.selection.proofs.Slots.{stored_at, stored_is}
+use lib.Seq.{take_all}
+use Rattle.selection.specs.Records.{members_rec}
+use Rattle.selection.specs.Select.{stored}
+use Rattle.selection.proofs.Slots.{stored-length, stored_more}
 use Rattle.selection.proofs.initialize_population.Goals as goal
 
 pub loop-i-init : goal.loop-i-init
-loop-i-init c = (omega arith, rw c.blank_member-blank.ensures (fill-first _ _ _ _))
+loop-i-init c = rw c.blank_member-population.ensures
 
 pub loop-i-preserved : goal.loop-i-preserved
-loop-i-preserved c =
-    let l = c.loop-i in
-    let a = c.args in
-    (omega arith, fill-again 160 blank_member (stored_at a.candidates a.results) a.n _ l.i _ (omega arith) (omega arith) refl l.invariant.1)
+loop-i-preserved c = stored_more _ _ _ _ (search rules) (omega arith) c.loop-i.invariant
 
 pub returns : goal.returns
 returns c =
-    let l = c.loop-i in
     let a = c.args in
-    fill-last 160 blank_member (stored_at a.candidates a.results) a.n _ _ (omega arith) l.invariant.1 ∙ ap members_rec (stored_is a.candidates a.results a.n (search rules) (search rules))
+    c.loop-i.invariant ∙ ap members_rec (take_all c.loop-i.i (stored a.candidates.now a.results.now) (omega (arith, stored-length a.candidates.now a.results.now)))

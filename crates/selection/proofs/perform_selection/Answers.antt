@@ -1,22 +1,19 @@
-use native.Mathlib.Omega.{arith}
-use mathlib.Core.Path.{ap, ◌∙◌}
+use Rattle.std.proofs.Common.{ap, ◌∙◌, arith}
 use borrow.Author.Rules.{rules}
-use Rattle.candidates.proofs.Fill.{fill-first, fill-again, fill-last}
-use Rattle.selection.specs.Records.{blank_member, members_rec}
-use Rattle.selection.proofs.Slots.{slot_at, selected-is}
+use lib.Seq.{take_all}
+use Rattle.selection.specs.Records.{members_rec}
+use Rattle.selection.specs.Select.{selected}
+use Rattle.selection.proofs.Slots.{selected-length, selected_more}
 use Rattle.selection.proofs.perform_selection.Goals as goal
 
 pub loop-i-init : goal.loop-i-init
-loop-i-init c = (omega arith, rw c.blank_member-blank.ensures (fill-first _ _ _ _))
+loop-i-init c = rw c.blank_member-population.ensures
 
 pub loop-i-preserved : goal.loop-i-preserved
-loop-i-preserved c =
-    let l = c.loop-i in
-    let a = c.args in
-    (omega arith, fill-again 160 blank_member (slot_at a.parents a.candidates a.results) a.n _ l.i _ (omega arith) (omega arith) c.survivor-m.ensures l.invariant.1)
+loop-i-preserved c = selected_more _ _ _ _ _ _ (search rules) (omega arith) c.survivor.ensures c.loop-i.invariant
 
 pub returns : goal.returns
 returns c =
-    let l = c.loop-i in
     let a = c.args in
-    fill-last 160 blank_member (slot_at a.parents a.candidates a.results) a.n _ _ (omega arith) l.invariant.1 ∙ ap members_rec (selected-is a.parents a.candidates a.results a.n (search rules) (search rules) (search rules))
+    c.loop-i.invariant
+    ∙ ap members_rec (take_all c.loop-i.i (selected a.parents.now a.candidates.now a.results.now) (omega (arith, selected-length a.parents.now a.candidates.now a.results.now)))

@@ -1,18 +1,14 @@
--- `create_mutant_with_rng` meets its contract: the indices that are drawn are slots, and the mutant is made of them. Assumes nothing.
-use native.Mathlib.Omega.{arith}
+-- `create_mutant_with_rng` meets its contract: the indices that are drawn are slots, and the mutant is made of them.
 use borrow.Author.Rules.{rules}
-use Rattle.evolution.specs.Flat.{in_flat}
-use Rattle.evolution.proofs.Trials.{mutated-is}
+use Rattle.evolution.specs.Mutant.{entries}
 use Rattle.evolution.proofs.Apart.{in-range}
+use Rattle.evolution.proofs.Trials.{mutated-is}
 use Rattle.evolution.proofs.mutant.create_mutant_with_rng.Goals as goal
 
-pub create_mutant-x-requires : goal.create_mutant-x-requires
-create_mutant-x-requires c =
-    let a = c.args in
-    let t = in-range _ a.size a.target a.from _ (search rules) c.select_random_indices-t.ensures (search rules) (search rules) in
-    (omega arith, omega arith, search rules, t.0, t.1, t.2)
+pub create_mutant-requires : goal.create_mutant-requires
+create_mutant-requires c =
+    let t = in-range _ _ _ _ _ _ (search rules) (search rules) c.select_random_indices-t.ensures in
+    (search rules, search rules, search rules, t.0, t.1, t.2)
 
 pub returns : goal.returns
-returns c =
-    let a = c.args in
-    mutated-is a.setup (in_flat a.rows.now) a.size a.best a.target a.n a.from _ _ _ c.index_count-count.ensures c.select_random_indices-t.ensures c.create_mutant-x.ensures
+returns c = mutated-is c.args.setup.now (entries c.args.parents.now) _ c.args.best _ c.args.n _ _ _ _ _ c.index_count-count.ensures c.select_random_indices-t.ensures c.create_mutant.ensures
