@@ -1,15 +1,15 @@
 -- W1 of the definition: on a sound plain state no call draws more than `step_ceiling`. Idea: by the cases of the ceiling. A closing draws for new candidates alone, for its trial gets the first
 -- of them and its first dimension; so does the end of discovery. Any other call draws for an extra's candidate or for one random setting, never both.
+use Rattle.std.specs.Prelude.{Option, Some, None, IsSome, is_some, is_none, slice_get}
 use Prim.Native.Nat.{ℕ, ◌+◌, ◌*◌, ◌≤◌, ◌<◌}
 use native.Mathlib.Nat.{le_trans, mul-add, mul-le-mul}
 use native.Mathlib.Omega.{arith}
 use mathlib.Core.Path.{◌≡◌, refl, sym, ap, subst, ◌∙◌}
 use mathlib.Core.Bool.{Bool, true, false, ◌&&◌, ◌||◌, cond}
 use mathlib.Core.List.{List, [], ◌∷◌, ◌++◌}
-use mathlib.Core.Option.{Option, none, some, IsSome}
 use borrow.Author.Tests.{lt-ltb, le-ltb, lt-leb}
 use lib.Ieee.{Float}
-use lib.ListN.{length, get_elem?, length-map}
+use lib.ListN.{length, length-map}
 use Rattle.distribution.specs.Validate.{judged}
 use Rattle.distribution.specs.declared.DimensionInfo.{DimensionInfo}
 use Rattle.candidates.specs.declared.Candidate.{Candidate}
@@ -18,7 +18,7 @@ use Rattle.evolution.specs.declared.DEStrategy.{DEStrategy}
 use Rattle.evolution.specs.declared.DEStrategy.TheVariants.{Rand1, Best1, CurrentToBest1}
 use Rattle.evolution.proofs.Ceiling.{tries}
 use Rattle.ledger.specs.Kernel as L
-use Rattle.ledger.specs.Words.{or_else, is_none, is_some, has}
+use Rattle.ledger.specs.Words.{or_else, has}
 use Rattle.ledger.specs.Call.{Call, call_refusal}
 use Rattle.ledger.specs.Call as C
 use Rattle.ledger.specs.State as Plain
@@ -47,7 +47,7 @@ slot-tries CurrentToBest1 = omega arith
 -- ---- the ceiling by its cases
 
 module _ (q : DEStrategy) (before after : Plain.State de) (n draws : ℕ) where
-  module _ (N : ℕ) (sized : after.size ≡ some N) (few : draws ≤ N * (tries q + length after.dims)) where
+  module _ (N : ℕ) (sized : after.size ≡ Some N) (few : draws ≤ N * (tries q + length after.dims)) where
     of-generation : draws ≤ generation_ceiling q N (length after.dims)
     of-generation = le_trans few (mul-le-mul {n₁ = N} {m₁ = tries q + length after.dims} {n₂ = N} {m₂ = per_slot q + length after.dims} (omega arith) (omega (arith, slot-tries q)))
 
@@ -55,7 +55,7 @@ module _ (q : DEStrategy) (before after : Plain.State de) (n draws : ℕ) where
     unfolding step_ceiling
     of-closing l = rw (lt-ltb (length after.trials) (length before.trials) l, sized) of-generation
 
-    of_end : before.size ≡ none → draws ≤ step_ceiling q before after n
+    of_end : before.size ≡ None → draws ≤ step_ceiling q before after n
     unfolding step_ceiling
     of_end e = rw (sized, e) (go (closes before after) _)
       where
@@ -81,11 +81,11 @@ module _ (S : Setup) (m : Plain.State de) (c : Call de) (v : Sound de S m) where
 
   -- the call is served from state t on
   abbrev Serves : Plain.State de → L.Gen ℕ → Accepted de → Type 0
-  Serves t g a = assign de S t c g (get_elem? t.candidates (place_in (numbers t.trials) c.number)) ≡ some a
+  Serves t g a = assign de S t c g (slice_get t.candidates (place_in (numbers t.trials) c.number)) ≡ Some a
 
   -- ---- after discovery
 
-  module _ (N : ℕ) (sized : m.size ≡ some N) where
+  module _ (N : ℕ) (sized : m.size ≡ Some N) where
     w : Running de S N m
     w = v.after N sized
 
@@ -98,7 +98,7 @@ module _ (S : Setup) (m : Plain.State de) (c : Call de) (v : Sound de S m) where
     -- it closes nothing
     plain-few : (a : Accepted de) → Serves m (start_gen de m) a → Within a
     unfolding assign
-    plain-few a z = go (has (numbers m.trials) c.number) refl (get_elem? m.candidates (place_in (numbers m.trials) c.number)) refl z
+    plain-few a z = go (has (numbers m.trials) c.number) refl (slice_get m.candidates (place_in (numbers m.trials) c.number)) refl z
       where
         g : L.Gen ℕ
         g = start_gen de m
@@ -106,17 +106,17 @@ module _ (S : Setup) (m : Plain.State de) (c : Call de) (v : Sound de S m) where
         no-fewer : length m.trials ≤ length (move (length m.dims) m.trials c.number)
         no-fewer = omega (arith, move-length (length m.dims) m.trials c.number)
 
-        go : (b : Bool) → has (numbers m.trials) c.number ≡ b → (o : Option Candidate) → get_elem? m.candidates (place_in (numbers m.trials) c.number) ≡ o → assign de S m c g o ≡ some a → Within a
-        go true f (some y) x e =
+        go : (b : Bool) → has (numbers m.trials) c.number ≡ b → (o : Option Candidate) → slice_get m.candidates (place_in (numbers m.trials) c.number) ≡ o → assign de S m c g o ≡ Some a → Within a
+        go true f (Some y) x e =
             let r = serve de m c m.candidates y g in
             subst Within (some_inj e) (of-open S.strategy m r.state c.number r.draws no-fewer (ended r.state) f w.some_dim (serve-few m c m.candidates y g))
-        go true f none x e =
+        go true f None x e =
             absurd (omega (arith, past_end m.candidates (place_in (numbers m.trials) c.number) x, w.candidates, place-in (numbers m.trials) c.number f, length-map m.trials (λ (t : Trial). t.number)))
-        go false f (some y) x e =
+        go false f (Some y) x e =
             let r = serve de m c m.candidates y g in
             subst Within (some_inj e)
             (of-new S.strategy m r.state c.number r.draws no-fewer (ended r.state) f (omega (arith, serve-new m c m.candidates y g w.some_dim f)))
-        go false f none x e =
+        go false f None x e =
             let p = bind-some (extra_of m.dims g) _ a e in
             let r = serve de m c (m.candidates ++ (p.0.out ∷ [])) p.0.out p.0.gen in
             subst Within (some_inj p.2)
@@ -124,7 +124,7 @@ module _ (S : Setup) (m : Plain.State de) (c : Call de) (v : Sound de S m) where
             (omega (arith, serve-new m c (m.candidates ++ (p.0.out ∷ [])) p.0.out p.0.gen w.some_dim f, extra-few m.dims g p.0 p.1)))
 
     -- it closes a generation
-    closing-few : (many : ℕ) (row : List Float) → Counted de de-laws N many row → N ≤ length m.trials → (r : L.Made ℕ (Plain.State de)) → close de S m (start_gen de m) (some row) ≡ some r
+    closing-few : (many : ℕ) (row : List Float) → Counted de de-laws N many row → N ≤ length m.trials → (r : L.Made ℕ (Plain.State de)) → close de S m (start_gen de m) (Some row) ≡ Some r
         → (a : Accepted de) → Serves r.out r.gen a → Within a
     unfolding close
     closing-few many row q enough r e a z =
@@ -145,21 +145,21 @@ module _ (S : Setup) (m : Plain.State de) (c : Call de) (v : Sound de S m) where
             (subst (λ (ds : List DimensionInfo). a.draws ≤ N * (tries S.strategy + length ds)) (sym (b.dims ∙ dims)) (omega (arith, b.draws, h)))
             (omega (arith, b.one, enough, four))
 
-    after-few : C.any_bad de c.history ≡ false → (a : Accepted de) → accept de S (some N) m c ≡ some a → Within a
+    after-few : C.any_bad de c.history ≡ false → (a : Accepted de) → accept de S (Some N) m c ≡ Some a → Within a
     unfolding accept sampling close
     after-few good a e =
         let p = bind-some (close de S m (start_gen de m) (counted de N (numbers m.trials) c.history)) _ a e in
         go (counted de N (numbers m.trials) c.history) refl p.0 p.1 p.2
       where
-        go : (o : Option (List Float)) → counted de N (numbers m.trials) c.history ≡ o → (r : L.Made ℕ (Plain.State de)) → close de S m (start_gen de m) o ≡ some r → Serves r.out r.gen a → Within a
-        go none x r y z = plain-few a (subst (λ (x : L.Made ℕ (Plain.State de)). Serves x.out x.gen a) (sym (some_inj y)) z)
-        go (some row) x r y z =
+        go : (o : Option (List Float)) → counted de N (numbers m.trials) c.history ≡ o → (r : L.Made ℕ (Plain.State de)) → close de S m (start_gen de m) o ≡ Some r → Serves r.out r.gen a → Within a
+        go None x r y z = plain-few a (subst (λ (x : L.Made ℕ (Plain.State de)). Serves x.out x.gen a) (sym (some_inj y)) z)
+        go (Some row) x r y z =
             let q = counted_is de de-laws N (numbers m.trials) c.history row good x in
             closing-few (length (numbers m.trials)) row q (omega (arith, q.enough, length-map m.trials (λ (t : Trial). t.number))) r y a z
 
   -- ---- before discovery has ended
 
-  module _ (unsized : m.size ≡ none) where
+  module _ (unsized : m.size ≡ None) where
     no_trials : m.trials ≡ []
     no_trials = (v.before unsized).no_trials
 
@@ -172,8 +172,8 @@ module _ (S : Setup) (m : Plain.State de) (c : Call de) (v : Sound de S m) where
         (omega (arith, ap (λ (x : L.Gen ℕ). x.draws) (one-draw c.distribution (start_gen de m)), snoc-length m.dims c.distribution))
 
     -- it ends discovery
-    ended-few : IsSome m.first → (p : L.Made ℕ (List Candidate)) → firsts_of m.dims (population_size_of S m.dims) (start_gen de m) ≡ some p
-        → (a : Accepted de) → sampling de S (population_size_of S m.dims) (begin de m (population_size_of S m.dims) p.out) c p.gen ≡ some a → Within a
+    ended-few : IsSome m.first → (p : L.Made ℕ (List Candidate)) → firsts_of m.dims (population_size_of S m.dims) (start_gen de m) ≡ Some p
+        → (a : Accepted de) → sampling de S (population_size_of S m.dims) (begin de m (population_size_of S m.dims) p.out) c p.gen ≡ Some a → Within a
     unfolding sampling close counted
     ended-few named p y a e =
         let N = population_size_of S m.dims in
@@ -181,8 +181,8 @@ module _ (S : Setup) (m : Plain.State de) (c : Call de) (v : Sound de S m) where
         let t = begin de m N p.out in
         let open-length : length (numbers m.trials) ≡ 0 = ap (λ (ts : List Trial). length (numbers ts)) no_trials in
         let q = bind-some (close de S t p.gen (counted de N (numbers m.trials) c.history)) _ a e in
-        let nothing : counted de N (numbers m.trials) c.history ≡ none = rw (lt-leb N (length (numbers m.trials)) (omega (arith, four, open-length))) in
-        let r = some_inj (subst (λ (o : Option (List Float)). close de S t p.gen o ≡ some q.0) nothing q.1) in
+        let nothing : counted de N (numbers m.trials) c.history ≡ None = rw (lt-leb N (length (numbers m.trials)) (omega (arith, four, open-length))) in
+        let r = some_inj (subst (λ (o : Option (List Float)). close de S t p.gen o ≡ Some q.0) nothing q.1) in
         let x = subst (λ (x : L.Made ℕ (Plain.State de)). Serves x.out x.gen a) (sym r) q.2 in
         let there = de-laws.firsts_length S m.dims N (start_gen de m) p y in
         let b = first-served S t c p.gen no_trials (omega (arith, there, four)) ((v.before unsized).named.0 named) a x in
@@ -191,11 +191,11 @@ module _ (S : Setup) (m : Plain.State de) (c : Call de) (v : Sound de S m) where
         (omega (arith, b.draws, firsts-few m.dims N (start_gen de m) p y, mul-add N (tries S.strategy) (length m.dims))))
         unsized
 
-    before-few : (a : Accepted de) → accept de S none m c ≡ some a → Within a
+    before-few : (a : Accepted de) → accept de S None m c ≡ Some a → Within a
     unfolding accept discovery
     before-few a e = go (discovers m.first c.number) refl e
       where
-        go : (b : Bool) → discovers m.first c.number ≡ b → discovery de S b m c ≡ some a → Within a
+        go : (b : Bool) → discovers m.first c.number ≡ b → discovery de S b m c ≡ Some a → Within a
         go true h z = subst Within (some_inj z) found-few
         go false h z =
             let p = bind-some (firsts_of m.dims (population_size_of S m.dims) (start_gen de m)) _ a z in
@@ -203,9 +203,9 @@ module _ (S : Setup) (m : Plain.State de) (c : Call de) (v : Sound de S m) where
 
   -- ---- either, or a refusal
 
-  accepted-few : C.any_bad de c.history ≡ false → (z : Option ℕ) → m.size ≡ z → (a : Accepted de) → accept de S z m c ≡ some a → Within a
-  accepted-few good none e a y = before-few e a y
-  accepted-few good (some N) e a y = after-few N e good a y
+  accepted-few : C.any_bad de c.history ≡ false → (z : Option ℕ) → m.size ≡ z → (a : Accepted de) → accept de S z m c ≡ Some a → Within a
+  accepted-few good None e a y = before-few e a y
+  accepted-few good (Some N) e a y = after-few N e good a y
 
   pub step-few : (step de S m c).draws ≤ step_ceiling S.strategy m (step de S m c).state c.number
   unfolding step
@@ -213,8 +213,8 @@ module _ (S : Setup) (m : Plain.State de) (c : Call de) (v : Sound de S m) where
     where
       go : (r : Option ℕ) (o : Option (Accepted de)) → or_else (call_refusal de c) (state_refusal de m.size m c) ≡ r → accept de S m.size m c ≡ o
           → (outcome de m r o).draws ≤ step_ceiling S.strategy m (outcome de m r o).state c.number
-      go (some r) o x y = omega arith
-      go none none x y = omega arith
-      go none (some a) x y =
+      go (Some r) o x y = omega arith
+      go None None x y = omega arith
+      go None (Some a) x y =
           let p = neither (call_refusal de c) (state_refusal de m.size m c) x in
           accepted-few (not-refused (C.any_bad de c.history) 8 (neither (judged c.distribution.distribution) _ p.0).1) m.size refl a y

@@ -1,14 +1,14 @@
 -- What each part of a call draws. A random candidate: at most one draw for each dimension; a later generation: at most `tries` more for each slot. Assignment: one
 -- draw for a setting past the last dimension, and none where the trial is new, since a new trial starts at dimension 0.
+use Rattle.std.specs.Prelude.{Option, Some, None, slice_get}
 use Prim.Native.Nat.{ℕ, ◌+◌, ◌*◌, ◌≤◌}
 use native.Mathlib.Omega.{arith}
 use mathlib.Core.Path.{◌≡◌, refl, sym, ap, subst}
 use mathlib.Core.Bool.{Bool, true, false, cond, true≢false}
 use mathlib.Core.List.{List, [], ◌∷◌, map}
-use mathlib.Core.Option.{Option, none, some}
 use borrow.Author.Tests.{lt-ltb}
 use lib.Dec.{eqb, ltb}
-use lib.ListN.{length, get_elem?, length-map}
+use lib.ListN.{length, length-map}
 use Rattle.rng_util.specs.Gen.{Made}
 use Rattle.distribution.specs.declared.DimensionInfo.{DimensionInfo}
 use Rattle.candidates.specs.Space.{space_of}
@@ -33,20 +33,20 @@ use Rattle.kernel.proofs.Examples.{one-draw}
 -- ---- candidates
 
 -- what came is what was made
-came : {A : Type 0} (b : Bool) (m : Made A) (x : L.Made ℕ A) → unless_nan b m ≡ some x → x.gen.draws ≡ m.after.draws
+came : {A : Type 0} (b : Bool) (m : Made A) (x : L.Made ℕ A) → unless_nan b m ≡ Some x → x.gen.draws ≡ m.after.draws
 came true m x e = absurd (none≢some e)
 came false m x e = ap (λ (y : L.Made ℕ _). y.gen.draws) (sym (some_inj e))
 
 module _ (ds : List DimensionInfo) where
-  pub firsts-few : (N : ℕ) (g : L.Gen ℕ) (x : L.Made ℕ (List Candidate)) → firsts_of ds N g ≡ some x → x.gen.draws ≤ g.draws + N * length ds
+  pub firsts-few : (N : ℕ) (g : L.Gen ℕ) (x : L.Made ℕ (List Candidate)) → firsts_of ds N g ≡ Some x → x.gen.draws ≤ g.draws + N * length ds
   unfolding firsts_of
   firsts-few N g x e = let m = random_candidates (space_of ds) N (code_gen g) in omega (arith, came (any_bad m.out) m x e, candidates-few ds N (code_gen g))
 
-  pub extra-few : (g : L.Gen ℕ) (x : L.Made ℕ Candidate) → extra_of ds g ≡ some x → x.gen.draws ≤ g.draws + length ds
+  pub extra-few : (g : L.Gen ℕ) (x : L.Made ℕ Candidate) → extra_of ds g ≡ Some x → x.gen.draws ≤ g.draws + length ds
   unfolding extra_of
   extra-few g x e = let m = random_candidate (space_of ds) (code_gen g) in omega (arith, came (any_nan m.out.x) m x e, candidate-few ds (code_gen g))
 
-  pub nexts-few : (S : Setup) (ps : List (L.Parent Candidate)) (b : ℕ) (g : L.Gen ℕ) (x : L.Made ℕ (List Candidate)) → nexts_of S ds ps b g ≡ some x
+  pub nexts-few : (S : Setup) (ps : List (L.Parent Candidate)) (b : ℕ) (g : L.Gen ℕ) (x : L.Made ℕ (List Candidate)) → nexts_of S ds ps b g ≡ Some x
       → x.gen.draws ≤ g.draws + length ps * (tries S.strategy + length ds)
   unfolding nexts_of
   nexts-few S ps b g x e =
@@ -87,9 +87,9 @@ pub record FirstServed (t : Plain.State de) (g : L.Gen ℕ) (a : Accepted de) : 
   pub one : length a.state.trials ≡ 1
 
 module _ (S : Setup) (t : Plain.State de) (c : Call de) (g : L.Gen ℕ) (e : t.trials ≡ []) (some-candidate : 1 ≤ length t.candidates) (some_dim : 1 ≤ length t.dims) where
-  pub first-served : (a : Accepted de) → assign de S t c g (get_elem? t.candidates (place_in (numbers t.trials) c.number)) ≡ some a → FirstServed t g a
+  pub first-served : (a : Accepted de) → assign de S t c g (slice_get t.candidates (place_in (numbers t.trials) c.number)) ≡ Some a → FirstServed t g a
   unfolding assign has place_in
-  first-served a x = go (get_elem? t.candidates (place_in (numbers t.trials) c.number)) refl x
+  first-served a x = go (slice_get t.candidates (place_in (numbers t.trials) c.number)) refl x
     where
       no_trials : numbers t.trials ≡ []
       no_trials = ap numbers e
@@ -97,8 +97,8 @@ module _ (S : Setup) (t : Plain.State de) (c : Call de) (g : L.Gen ℕ) (e : t.t
       first : place_in (numbers t.trials) c.number ≡ 0
       first = ap (λ (ns : List ℕ). place_in ns c.number) no_trials
 
-      go : (o : Option Candidate) → get_elem? t.candidates (place_in (numbers t.trials) c.number) ≡ o → assign de S t c g o ≡ some a → FirstServed t g a
-      go (some y) h z =
+      go : (o : Option Candidate) → slice_get t.candidates (place_in (numbers t.trials) c.number) ≡ o → assign de S t c g o ≡ Some a → FirstServed t g a
+      go (Some y) h z =
           subst (FirstServed t g) (some_inj z)
           (record {
             draws = serve-new t c t.candidates y g some_dim (ap (λ (ns : List ℕ). has ns c.number) no_trials);
@@ -106,4 +106,4 @@ module _ (S : Setup) (t : Plain.State de) (c : Call de) (g : L.Gen ℕ) (e : t.t
             dims = refl;
             one = omega (arith, move-length (length t.dims) t.trials c.number, ap length e, first);
           })
-      go none h z = absurd (omega (arith, past_end t.candidates (place_in (numbers t.trials) c.number) h, first))
+      go None h z = absurd (omega (arith, past_end t.candidates (place_in (numbers t.trials) c.number) h, first))

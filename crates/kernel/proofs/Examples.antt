@@ -1,9 +1,9 @@
 -- What the ledger's laws do not see of the kernel, on small inputs: which entry or choice a setting is decoded from, what does not fit, which dimensions N counts, the draws, refusal 11.
 -- All by computation.
+use Rattle.std.specs.Prelude.{Option, Some, None, ℤ}
 use mathlib.Core.Path.{◌≡◌, refl}
 use mathlib.Core.Bool.{true, false}
 use mathlib.Core.List.{List, [], ◌∷◌, map}
-use mathlib.Core.Option.{Option, none, some}
 use Prim.Native.Nat.{ℕ, suc, ◌+◌}
 use lib.IntN.{pos}
 use lib.Ieee.{Float, nan, inf, neg, add, of_int, lt, is_nan, of_bits, of_fields, odd}
@@ -13,16 +13,12 @@ use Rattle.rng_util.specs.Gen.{draw_of}
 use Rattle.rng_util.specs.Many.{many}
 use Rattle.distribution.specs.declared.DimensionInfo.{DimensionInfo}
 use Rattle.distribution.specs.declared.Distribution.TheVariants.{Float as FloatD, Int as IntD, Categorical as CategoricalD}
-use Rattle.distribution.specs.declared.FloatStep.{FloatStep}
-use Rattle.distribution.specs.declared.FloatStep.TheVariants as F
-use Rattle.distribution.specs.declared.IntStep.{IntStep}
-use Rattle.distribution.specs.declared.IntStep.TheVariants as I
 use Rattle.distribution.specs.declared.ParamValue.TheVariants.{Float as FloatV, Int as IntV, Categorical}
 use Rattle.distribution.proofs.Examples.{dec}
 use Rattle.rounding.specs.Clamp.{clamp_of}
 use Rattle.common.specs.FromInternal.{from_internal}
 use Rattle.common.specs.Random.{random_setting}
-use Rattle.candidates.specs.Space.{continuous_dims, spans_of, space_of}
+use Rattle.candidates.specs.Space.{continuous_dims, space_of}
 use Rattle.candidates.specs.Candidate.{packed}
 use Rattle.candidates.specs.Random.{random_entry, random_entries, random_choice, random_choices, random_candidate, random_candidates}
 use Rattle.candidates.specs.Nan.{any_nan, any_bad}
@@ -33,8 +29,6 @@ use Rattle.evolution.specs.Cross.{cross_entry, crossed}
 use Rattle.evolution.specs.Trial.{trial_of, trial_vectors, next_candidates}
 use Rattle.evolution.specs.declared.DEStrategy.{DEStrategy}
 use Rattle.evolution.specs.declared.DEStrategy.TheVariants.{Rand1, Best1, CurrentToBest1}
-use Rattle.evolution.specs.declared.PopulationSize.{PopulationSize}
-use Rattle.evolution.specs.declared.PopulationSize.TheVariants.{Unset, Of}
 use Rattle.evolution.specs.declared.Setup.{Setup}
 use Rattle.ledger.specs.Words.{all}
 use Rattle.ledger.specs.Kernel as L
@@ -46,14 +40,14 @@ use Rattle.kernel.specs.De.{population_size_of, random_of, decode_of, firsts_of,
 abbrev one_of : ℕ → DimensionInfo
 one_of n = record { distribution = CategoricalD (record { n_choices = n }) }
 
-abbrev floats : Float → Float → FloatStep → DimensionInfo
+abbrev floats : Float → Float → Option Float → DimensionInfo
 floats low high step = record { distribution = FloatD (record { low = low; high = high; log_scale = false; step = step }) }
 
-abbrev ints : ℕ → ℕ → IntStep → DimensionInfo
+abbrev ints : ℕ → ℕ → Option ℤ → DimensionInfo
 ints low high step = record { distribution = IntD (record { low = pos low; high = pos high; log_scale = false; step = step }) }
 
 abbrev mixed : List DimensionInfo
-mixed = one_of 3 ∷ floats (dec 0 0) (dec 1 0) (F.By (dec 25 2)) ∷ one_of 5 ∷ ints 1 11 (I.By (pos 4)) ∷ []
+mixed = one_of 3 ∷ floats (dec 0 0) (dec 1 0) (Some (dec 25 2)) ∷ one_of 5 ∷ ints 1 11 (Some (pos 4)) ∷ []
 
 abbrev vector : Candidate
 vector = packed (dec 625 3 ∷ dec 8 0 ∷ []) (2 ∷ 0 ∷ 4 ∷ 0 ∷ [])
@@ -65,7 +59,7 @@ decoded = refl
 
 -- without steps: an entry as it is, a choice, an entry over its bound, and 2.5 to the nearest whole number, away from zero
 abbrev plain : List DimensionInfo
-plain = floats (dec 0 0) (dec 1 0) F.Unset ∷ one_of 2 ∷ floats (dec 0 0) (dec 1 0) F.Unset ∷ ints 1 9 I.Unset ∷ []
+plain = floats (dec 0 0) (dec 1 0) None ∷ one_of 2 ∷ floats (dec 0 0) (dec 1 0) None ∷ ints 1 9 None ∷ []
 
 pub decoded-plain :
     map (λ (k : ℕ). decode_of plain k (packed (dec 3 1 ∷ dec 7 0 ∷ dec 25 1 ∷ []) (0 ∷ 1 ∷ 0 ∷ 0 ∷ []))) (0 ∷ 1 ∷ 2 ∷ 3 ∷ [])
@@ -95,10 +89,10 @@ fitting = refl
 
 -- ---- N counts continuous dimensions, two of the four: 10 × 2, and the user's raised to 4
 
-abbrev setup : PopulationSize → DEStrategy → Float → Setup
+abbrev setup : Option ℕ → DEStrategy → Float → Setup
 setup size strategy F = record { mutation_factor = F; crossover_rate = dec 5 1; strategy = strategy; population_size = size; seed = 0 }
 
-pub sizes : map (λ (size : PopulationSize). population_size_of (setup size Rand1 (dec 5 1)) mixed) (Unset ∷ Of 3 ∷ Of 5 ∷ []) ≡ 20 ∷ 4 ∷ 5 ∷ []
+pub sizes : map (λ (size : Option ℕ). population_size_of (setup size Rand1 (dec 5 1)) mixed) (None ∷ Some 3 ∷ Some 5 ∷ []) ≡ 20 ∷ 4 ∷ 5 ∷ []
 unfolding continuous_dims
 sizes = refl
 
@@ -111,14 +105,14 @@ one-draw d g = refl
 -- ---- refusal 11: between bounds that are NaN every entry is, whatever is drawn
 
 abbrev unbounded : List DimensionInfo
-unbounded = floats nan nan F.Unset ∷ []
+unbounded = floats nan nan None ∷ []
 
-pub first-refused : (n : ℕ) (g : L.Gen ℕ) → firsts_of unbounded (suc n) g ≡ none
-unfolding firsts_of random_candidates random_candidate random_entries random_entry many space_of spans_of continuous_dims any_bad any_nan is_nan add
+pub first-refused : (n : ℕ) (g : L.Gen ℕ) → firsts_of unbounded (suc n) g ≡ None
+unfolding firsts_of random_candidates random_candidate random_entries random_entry many space_of continuous_dims any_bad any_nan is_nan add
 first-refused n g = refl
 
-pub extra-refused : (g : L.Gen ℕ) → extra_of unbounded g ≡ none
-unfolding extra_of random_candidate random_entries random_entry many space_of spans_of continuous_dims any_nan is_nan add
+pub extra-refused : (g : L.Gen ℕ) → extra_of unbounded g ≡ None
+unfolding extra_of random_candidate random_entries random_entry many space_of continuous_dims any_nan is_nan add
 extra-refused g = refl
 
 -- ---- a later generation
@@ -133,11 +127,11 @@ abbrev start : L.Gen ℕ
 start = record { word = 7; draws = 0 }
 
 abbrev later : List Candidate → ℕ → ℕ → Option (L.Made ℕ (List Candidate))
-later out word draws = some (record { out = out; gen = record { word = word; draws = draws } })
+later out word draws = Some (record { out = out; gen = record { word = word; draws = draws } })
 
 -- steps 3 and 4 whole, by each strategy from the same word, with best slot 2 and F = CR = 0.5: entries, choices, the word after them and the count of draws
 pub generations :
-    map (λ (strategy : DEStrategy). nexts_of (setup Unset strategy (dec 5 1)) mixed parents 2 start) (Rand1 ∷ Best1 ∷ CurrentToBest1 ∷ [])
+    map (λ (strategy : DEStrategy). nexts_of (setup None strategy (dec 5 1)) mixed parents 2 start) (Rand1 ∷ Best1 ∷ CurrentToBest1 ∷ [])
     ≡ later
     (packed (dec 1 0 ∷ dec 11 0 ∷ []) (2 ∷ 0 ∷ 0 ∷ 0 ∷ [])
     ∷ packed (dec 75 2 ∷ dec 4 0 ∷ []) (0 ∷ 0 ∷ 2 ∷ 0 ∷ [])
@@ -157,10 +151,10 @@ pub generations :
     ∷ packed (dec 875 3 ∷ dec 10 0 ∷ []) (0 ∷ 0 ∷ 0 ∷ 0 ∷ [])
     ∷ []) 17026080507310378600 29
     ∷ []
-unfolding nexts_of next_candidates trial_vectors trial_of crossed cross_entry mutant_entry indices_of select_from is_free random_choices random_choice many space_of spans_of continuous_dims draw_of drawn unit_of clamp_of any_bad any_nan is_nan lt of_int of_bits of_fields odd dec
+unfolding nexts_of next_candidates trial_vectors trial_of crossed cross_entry mutant_entry indices_of select_from is_free random_choices random_choice many space_of continuous_dims draw_of drawn unit_of clamp_of any_bad any_nan is_nan lt of_int of_bits of_fields odd dec
 generations = refl
 
 -- and 11 for a mutation factor that is NaN, which no accepted set-up has (refusal 1)
-pub later-refused : nexts_of (setup Unset Rand1 nan) mixed parents 2 start ≡ none
-unfolding nexts_of next_candidates trial_vectors trial_of crossed cross_entry mutant_entry indices_of select_from is_free random_choices random_choice many space_of spans_of continuous_dims draw_of drawn unit_of clamp_of any_bad any_nan is_nan lt of_int of_bits of_fields odd dec
+pub later-refused : nexts_of (setup None Rand1 nan) mixed parents 2 start ≡ None
+unfolding nexts_of next_candidates trial_vectors trial_of crossed cross_entry mutant_entry indices_of select_from is_free random_choices random_choice many space_of continuous_dims draw_of drawn unit_of clamp_of any_bad any_nan is_nan lt of_int of_bits of_fields odd dec
 later-refused = refl

@@ -1,10 +1,10 @@
 -- A new candidate that refusal 11 passes fits its dimensions. Idea: a drawn entry is finite, since the bounds are small (Within); a crossed one is clamped between finite bounds,
 -- so it is finite or NaN, and 11 leaves no NaN; a choice is a remainder by its dimension's number.
+use Rattle.std.specs.Prelude.{None}
 use mathlib.Core.Path.{◌≡◌, refl, sym, ◌∙◌, subst}
 use mathlib.Core.Bool.{Bool, true, false, cond, true≢false}
 use mathlib.Core.List.Memᴰ
 use mathlib.Core.List.{List, [], ◌∷◌, ◌++◌, map}
-use mathlib.Core.Option.{none}
 use Prim.Native.Nat.{ℕ, zero, suc, ◌+◌, ◌-◌, ◌≤◌, ◌<◌, zero-le}
 use native.Mathlib.Nat.{mod-lt, not-suc-le-zero, le_of_suc-le-suc}
 use native.Mathlib.Omega.{arith}
@@ -30,7 +30,7 @@ use Rattle.distribution.proofs.Flags.{neither}
 use Rattle.distribution.proofs.Meaning.{judged-good}
 use Rattle.common.specs.Bounds.{zero_f, bounds, bounds_of}
 use Rattle.common.specs.declared.Bounds.{Bounds}
-use Rattle.candidates.specs.Space.{continuous_dims, continuous_count, continuous_bounds, choice_counts, spans_of, space_of}
+use Rattle.candidates.specs.Space.{continuous_dims, continuous_count, continuous_bounds, choice_counts, space_of}
 use Rattle.candidates.specs.Random.{random_entry, nan_bounds, entry_at, random_entries, random_choice, choice_at, random_choices, with_choices, random_candidate, candidate_at, random_candidates}
 use Rattle.candidates.specs.Nan.{any_nan, any_bad}
 use Rattle.candidates.specs.declared.Candidate.{Candidate}
@@ -66,7 +66,7 @@ module _ {A : Type 0} (P : A → Type 0) where
 -- ---- what refusals 4 to 7 leave
 
 abbrev pub Passes : DimensionInfo → Type 0
-Passes d = judged d.distribution ≡ none
+Passes d = judged d.distribution ≡ None
 
 abbrev pub Small : Bounds → Type 0
 Small b = Within 997 b.low × Within 997 b.high
@@ -94,7 +94,7 @@ all_small (d ∷ ds) h = go (is_continuous d) (all_small ds (λ a t. h a (Memᴰ
 
 -- the bounds of entry j
 pub bounds-at : (ds : List DimensionInfo) → All Passes ds → (j : ℕ) → j < continuous_count ds → Small (get_or (space_of ds).bounds j nan_bounds)
-unfolding space_of spans_of
+unfolding space_of
 bounds-at ds h j l =
     let n : j < length (continuous_bounds ds) = omega (arith, length-map (continuous_dims ds) bounds_of) in
     subst Small (sym (get_or-append (continuous_bounds ds) _ nan_bounds j n)) (all-at Small (continuous_bounds ds) j nan_bounds (all_small ds h) n)
@@ -136,7 +136,7 @@ clamp-kept (fin s m e) l h p q = go (lt (fin s m e) l) (lt h (fin s m e))
 
 cross-kept : (rate : Float) (star : ℕ) (v x : Float) (b : Bounds) (j : ℕ) (g : Gen) → Small b → Kept (cross_entry rate star v x b j g).out
 unfolding cross_entry
-cross-kept rate star v x b j g s = go (eqb j star) (cond (lt (unit_of (draw_of g).output) rate) v x)
+cross-kept rate star v x b j g s = go (eqb j star) (cond (lt (unit_of (draw_of g).out) rate) v x)
   where
     go : (t : Bool) (y : Float) → Kept (cond t (made (judged_entry b v) g) (made (judged_entry b y) (draw_of g).after)).out
     go true y = clamp-kept v b.low b.high (within-finite 997 b.low s.0) (within-finite 997 b.high s.1)
@@ -167,9 +167,9 @@ choice-below (FloatD d) g h = tt
 choice-below (IntD d) g h = tt
 choice-below (Categorical d) g h = go (eqb d.n_choices 0)
   where
-    go : (t : Bool) → T (ltb (cond t (made 0 g) (made (usize_of (draw_of g).output d.n_choices) (draw_of g).after)).out d.n_choices)
+    go : (t : Bool) → T (ltb (cond t (made 0 g) (made (usize_of (draw_of g).out d.n_choices) (draw_of g).after)).out d.n_choices)
     go true = lt→ltb 0 d.n_choices h.some_choice
-    go false = lt→ltb (usize_of (draw_of g).output d.n_choices) d.n_choices (mod-lt (draw_of g).output h.some_choice)
+    go false = lt→ltb (usize_of (draw_of g).out d.n_choices) d.n_choices (mod-lt (draw_of g).out h.some_choice)
 
 choice-fits : (d : DimensionInfo) (g : Gen) → Passes d → T (ltb (random_choice (choices_of d) g).out (choice_limit d))
 choice-fits d g p = choice-below d.distribution g (judged-good d.distribution p)
@@ -206,7 +206,7 @@ candidate-fits ds h xs e k f =
 
 module _ (ds : List DimensionInfo) (h : All Passes ds) where
   pub random-fits : (g : Gen) → FitsUnlessNan ds (random_candidate (space_of ds) g).out
-  unfolding random_candidate random_entries space_of spans_of
+  unfolding random_candidate random_entries space_of
   random-fits g =
       let n = continuous_count ds in
       let make = entry_at (space_of ds) in
@@ -214,12 +214,12 @@ module _ (ds : List DimensionInfo) (h : All Passes ds) where
       (all_made Kept make n (λ j l e _. entry-finite (get_or (space_of ds).bounds j nan_bounds) e (bounds-at ds h j l)) n 0 g (omega arith))
 
   trial-fits : (S : Setup) (x : ℕ → ℕ → Float) (N best i : ℕ) (g : Gen) → FitsUnlessNan ds (trial_of S x N best (space_of ds) i g).out
-  unfolding trial_of crossed space_of spans_of
+  unfolding trial_of crossed space_of
   trial-fits S x N best i g =
       let n = continuous_count ds in
       let t = indices_for S N i g in
       let d = draw_of t.after in
-      let make = cross_at S.crossover_rate (usize_of d.output n) (mutant_at S x best i t) (x i) (space_of ds) in
+      let make = cross_at S.crossover_rate (usize_of d.out n) (mutant_at S x best i t.out) (x i) (space_of ds) in
       candidate-fits ds h (many make n 0 d.after) (many-length make n 0 d.after)
       (all_made Kept make n (λ j l e. cross-kept _ _ _ _ (get_or (space_of ds).bounds j nan_bounds) j e (bounds-at ds h j l)) n 0 d.after (omega arith))
 

@@ -1,9 +1,9 @@
 -- Refusal 11 is never for a random candidate of dimensions that pass 4 to 7. Idea: each of its entries is finite (Fit), and so are unused ones.
+use Rattle.std.specs.Prelude.{Some}
 use mathlib.Core.Path.{◌≡◌, refl, ap}
 use mathlib.Core.Bool.{Bool, false}
 use mathlib.Core.List.Memᴰ
 use mathlib.Core.List.{List, [], ◌∷◌, ◌++◌}
-use mathlib.Core.Option.{some}
 use Prim.Native.Nat.{ℕ, zero, suc, ◌-◌}
 use native.Mathlib.Omega.{arith}
 use lib.Dec.{T}
@@ -15,7 +15,7 @@ use Rattle.distribution.specs.Validate.{is_finite}
 use Rattle.distribution.specs.declared.DimensionInfo.{DimensionInfo}
 use Rattle.distribution.proofs.Flags.{both-fail}
 use Rattle.common.specs.Bounds.{zero_f}
-use Rattle.candidates.specs.Space.{continuous_count, spans_of, space_of}
+use Rattle.candidates.specs.Space.{continuous_count, space_of}
 use Rattle.candidates.specs.Random.{nan_bounds, entry_at, random_entries, random_candidate, candidate_at, random_candidates}
 use Rattle.candidates.specs.Nan.{any_nan, any_bad}
 use Rattle.candidates.specs.declared.Candidate.{Candidate}
@@ -47,7 +47,7 @@ none-bad (c ∷ cs) h = both-fail (h c (Memᴰ.head refl)) (none-bad cs (λ a t.
 
 module _ (ds : List DimensionInfo) (h : All Passes ds) where
   random-numbers : (g : Gen) → any_nan (random_candidate (space_of ds) g).out.x ≡ false
-  unfolding random_candidate random_entries space_of spans_of
+  unfolding random_candidate random_entries space_of
   random-numbers g =
       let n = continuous_count ds in
       let xs = (many (entry_at (space_of ds)) n 0 g).out in
@@ -61,11 +61,11 @@ module _ (ds : List DimensionInfo) (h : All Passes ds) where
       (all_made (λ c. any_nan c.x ≡ false) (candidate_at (space_of ds)) N (λ j l e. random-numbers e) N 0 g (omega arith))
 
   -- each extra gets one
-  pub extra-given : (g : L.Gen ℕ) → extra_of ds g ≡ some (made (random_candidate (space_of ds) (code_gen g)))
+  pub extra-given : (g : L.Gen ℕ) → extra_of ds g ≡ Some (made (random_candidate (space_of ds) (code_gen g)))
   unfolding extra_of
   extra-given g = ap (λ (bad : Bool). unless_nan bad (random_candidate (space_of ds) (code_gen g))) (random-numbers (code_gen g))
 
   -- and discovery ends with N
-  pub firsts-given : (N : ℕ) (g : L.Gen ℕ) → firsts_of ds N g ≡ some (made (random_candidates (space_of ds) N (code_gen g)))
+  pub firsts-given : (N : ℕ) (g : L.Gen ℕ) → firsts_of ds N g ≡ Some (made (random_candidates (space_of ds) N (code_gen g)))
   unfolding firsts_of
   firsts-given N g = ap (λ (bad : Bool). unless_nan bad (random_candidates (space_of ds) N (code_gen g))) (all-numbers N (code_gen g))

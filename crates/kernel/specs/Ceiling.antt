@@ -1,9 +1,8 @@
 -- W1, the draw ceiling: how much one sample call can draw, by the plain states before and after it and the calling trial's number.
-use Rattle.std.specs.Prelude.{ℕ, ◌+◌, ◌*◌, min, Bool, ◌&&◌, ◌||◌, cond, ltb, length}
-use Rattle.std.proofs.Math.Option.{get_or}
+use Rattle.std.specs.Prelude.{ℕ, ◌+◌, ◌*◌, min, Bool, ◌&&◌, ◌||◌, cond, ltb, length, unwrap_or, is_some, is_none}
 use Rattle.evolution.specs.declared.DEStrategy.{DEStrategy}
 use Rattle.evolution.specs.declared.DEStrategy.TheVariants.{Rand1, Best1, CurrentToBest1}
-use Rattle.ledger.specs.Words.{is_none, is_some, has}
+use Rattle.ledger.specs.Words.{has}
 use Rattle.ledger.specs.State.{State, numbers}
 use Rattle.kernel.specs.De.{de}
 
@@ -37,6 +36,6 @@ generation_ceiling strategy N D = N * (per_slot strategy + D)
 -- of dimensions after the call. All other calls make at most D draws, and at most one where the trial already has a candidate."
 unfoldable pub step_ceiling : DEStrategy → State de → State de → ℕ → ℕ
 step_ceiling strategy before after n =
-    let N = get_or after.size 0 in
+    let N = unwrap_or after.size 0 in
     let D = length after.dims in
     cond (closes before after || ends_discovery before after) (generation_ceiling strategy N D) (cond (has_candidate before n) (min 1 D) D)

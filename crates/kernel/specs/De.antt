@@ -1,6 +1,5 @@
 -- The kernel of document 01: what the ledger does not look into, made of the leaves' definitions. Demand 2's definition is the ledger's `sample` over it.
-use Rattle.std.specs.Prelude.{ℕ, Bool, cond, List, map, T, get_or}
-use Rattle.std.proofs.Math.Option.{Option, none, some}
+use Rattle.std.specs.Prelude.{ℕ, Bool, cond, List, map, T, get_or, Option, Some, None}
 use Rattle.rng_util.specs.Gen.{Made}
 use Rattle.rng_util.specs.declared.Gen.{Gen}
 use Rattle.distribution.specs.Dims.{is_continuous, no_dim}
@@ -59,7 +58,7 @@ decode_of ds k y =
 -- ---- candidates; 11: "a new candidate's entry is NaN"
 
 abbrev pub unless_nan : {A : Type 0} → Bool → Made A → Option (L.Made ℕ A)
-unless_nan bad m = cond bad none (some (made m))
+unless_nan bad m = cond bad None (Some (made m))
 
 -- "fills N random candidates"
 unfoldable pub firsts_of : List DimensionInfo → ℕ → L.Gen ℕ → Option (L.Made ℕ (List Candidate))
