@@ -1,5 +1,6 @@
 -- Refusal 0 in document 01's words: a state is sound exactly where its set-up passes 1 to 3, its view is sound, and it is its view laid out, with its unused
 -- places as in a fresh state. A fresh state is; one with 3 slots after discovery is not.
+use Rattle.std.specs.Prelude.{is_ok}
 use Prim.Native.Nat.{◌≤◌}
 use native.Mathlib.Omega.{arith}
 use mathlib.Core.Path.{◌≡◌, refl, ap, ◌∙◌}
@@ -11,7 +12,7 @@ use Rattle.ledger.specs.State as Plain
 use Rattle.ledger.specs.Soundness.{Sound}
 use Rattle.ledger.proofs.Sound.{fresh-sound}
 use Rattle.kernel.specs.De.{de}
-use Rattle.state.specs.Setup.{setup_verdict, is_valid}
+use Rattle.state.specs.Setup.{setup_verdict}
 use Rattle.state.specs.View.{size_in, view, laid}
 use Rattle.state.specs.Sound.{sound_state}
 use Rattle.state.specs.declared.State.{State}
@@ -20,7 +21,7 @@ use Rattle.state.proofs.Measured.{Measured}
 use Rattle.state.proofs.Tidy.{setup-valid, view-sound, is-laid}
 
 pub record Tidy (s : State) : Type 0 where
-  pub setup : is_valid (setup_verdict s.setup) ≡ true
+  pub setup : is_ok (setup_verdict s.setup) ≡ true
   pub sound : Sound de s.setup (view s)
   pub unused : s ≡ laid s.setup (view s)
 
@@ -32,7 +33,7 @@ module _ (L : Laws de) where
   )
 
   -- "Fresh is what an accepted set-up returns"
-  pub fresh-state-sound : (S : Setup) → is_valid (setup_verdict S) ≡ true → sound_state (laid S (Plain.fresh de S)) ≡ true
+  pub fresh-state-sound : (S : Setup) → is_ok (setup_verdict S) ≡ true → sound_state (laid S (Plain.fresh de S)) ≡ true
   fresh-state-sound S ok = laid-sound S (Plain.fresh de S) (fresh-sound de L S) ok L
 
   -- the table's small input: "N = 3 after discovery"

@@ -3,35 +3,27 @@ use Prim.Native.Nat.{ℕ, zero, suc, ◌+◌, ◌-◌, ◌≤◌, ◌<◌}
 use native.Mathlib.Omega.{arith}
 use native.Mathlib.Nat.{not-suc-le-zero, le_of_suc-le-suc, le_refl}
 use mathlib.Core.Path.{◌≡◌, refl, sym, ap, ap₂, ◌∙◌}
-use mathlib.Core.Bool.{Bool, true, false, ◌&&◌, cond}
+use mathlib.Core.Bool.{Bool, true, false, ◌&&◌}
 use mathlib.Core.List.{List, [], ◌∷◌, ◌++◌, map}
 use borrow.Author.Tests.{le-ltb, ne_eqb}
 use lib.Dec.{eqb, ltb}
 use lib.Ieee.{Float, nan, inf, fin}
 use lib.ListN.{length, get_or, take, drop, replicate, length-map}
-use lib.Seq.{take-take}
+use lib.Seq.{take-length}
 use Rattle.rng_util.specs.Many.{pad_to, listed}
-use Rattle.distribution.specs.Validate.{is_finite, verdict_of, refusal_of, judged}
-use Rattle.distribution.specs.declared.Distribution.{Distribution}
-use Rattle.distribution.specs.declared.Verdict.{Verdict}
-use Rattle.distribution.specs.declared.Verdict.TheVariants.{Valid, Refused}
+use Rattle.distribution.specs.Validate.{is_finite}
 use Rattle.distribution.specs.declared.DimensionInfo.{DimensionInfo}
 use Rattle.distribution.specs.Dims.{choices_of, no_dim}
-use Rattle.distribution.specs.declared.Ci.{Ci}
 use Rattle.candidates.specs.Space.{continuous_dims, continuous_count, FewChoices}
 use Rattle.candidates.specs.declared.Candidate.{Candidate}
-use Rattle.candidates.specs.Candidate.{continuous_place}
 use Rattle.candidates.proofs.Lists.{listed-map}
-use Rattle.candidates.proofs.Passed.{few-continuous, count_fits}
-use Rattle.evolution.specs.declared.Member.{Member}
-use Rattle.ledger.specs.Words.{is_none, all}
-use Rattle.ledger.specs.Soundness.{is_number}
+use Rattle.candidates.proofs.Passed.{few-continuous}
+use Rattle.ledger.specs.Words.{all}
 use Rattle.kernel.specs.Fits.{is_zero, entries_fit, choice_limit, choices_fit, fits}
-use Rattle.state.specs.Setup.{is_valid}
-use Rattle.state.specs.Blank.{is_blank_candidate, is_blank_member}
-use Rattle.state.specs.Places.{places_fit, member_fits, limits_of, choices_below}
+use Rattle.state.specs.Blank.{is_blank_candidate}
+use Rattle.state.specs.Places.{places_fit, choices_below, limits_of}
 use Rattle.state.specs.declared.places.Limits.{Limits}
-use Rattle.state.proofs.Flags.{both-places, true-and, and-true}
+use Rattle.state.proofs.Flags.{true-and, and-true}
 use Rattle.state.proofs.Loops.{and_assoc, and_yes}
 use Rattle.state.proofs.Measured.{Sized}
 
@@ -57,13 +49,12 @@ choices-are [] cs r h = let e : r ≡ length cs = omega (arith, h) in ap (λ (k 
 choices-are (d ∷ ds) [] r h = absurd (omega (arith, h))
 choices-are (d ∷ ds) (c ∷ cs) r h = ap (λ (b : Bool). ltb c (choice_limit d) && b) (choices-are ds cs r (omega (arith, h)))
 
-pub fits_by : (c : Candidate) (limits : Limits) (a b : Bool) → Sized c → a ≡ places_fit is_finite is_zero limits.n c.x → b ≡ choices_below c.choices limits.choices
-    → (ds : List DimensionInfo) → length ds ≤ 16 → limits ≡ limits_of ds → (a && b) ≡ fits ds c
+pub fits_by : (c : Candidate) (l : Limits) {a b : Bool} → Sized c → a ≡ places_fit is_finite is_zero l.n c.x → b ≡ choices_below c.choices l.choices → (ds : List DimensionInfo) → length ds ≤ 16 → l ≡ limits_of ds → (a && b) ≡ fits ds c
 unfolding fits
-fits_by c limits a b z p q ds few e =
+fits_by c l z p q ds few e =
     ap₂ (λ (x y : Bool). x && y)
-    (p ∙ ap (λ (l : Limits). places_fit is_finite is_zero l.n c.x) e ∙ entries-are (continuous_count ds) c.x (omega (arith, few-continuous ds, z.x)))
-    (q ∙ ap (λ (l : Limits). choices_below c.choices l.choices) e
+    (p ∙ ap (λ (k : Limits). places_fit is_finite is_zero k.n c.x) e ∙ entries-are (continuous_count ds) c.x (omega (arith, few-continuous ds, z.x)))
+    (q ∙ ap (λ (k : Limits). choices_below c.choices k.choices) e
     ∙ choices-are ds c.choices (16 - length (map choice_limit ds)) (omega (arith, length-map ds choice_limit, z.choices)))
 
 -- ---- unused entries are finite too
@@ -100,30 +91,14 @@ pub blank-by : (c : Candidate) {a b : Bool} → a ≡ all is_zero c.x → b ≡ 
 unfolding fits entries_fit choices_fit continuous_dims
 blank-by c p q = ap₂ (λ (x y : Bool). x && y) p q
 
-pub member-place : (m : Member) (used : Bool) (ds : List DimensionInfo) {a b : Bool} → a ≡ cond used (fits ds m.candidate) (is_blank_candidate m.candidate) → b ≡ cond used (is_number m.value) (is_zero m.value)
-    → (a && b) ≡ cond used (member_fits ds m) (is_blank_member m)
-member-place m used ds p q = both-places used (fits ds m.candidate) (is_blank_candidate m.candidate) (is_number m.value) (is_zero m.value) p q
-
--- ---- dimensions that pass 4 to 7
-
-pub passes-is : (d : Distribution) (v : Verdict) (r : Bool) → v ≡ verdict_of d → r ≡ is_valid v → r ≡ is_none (judged d)
-passes-is d v r e f = f ∙ ap is_valid e ∙ go (verdict_of d)
-  where
-    go : (w : Verdict) → is_valid w ≡ is_none (refusal_of w)
-    go Valid = refl
-    go (Refused x) = refl
-
 -- ---- the limits, read out of the dimensions
 
 abbrev pub limit_at : List DimensionInfo → ℕ → ℕ
 limit_at dims k = choice_limit (get_or dims k no_dim)
 
-pub limits-are : (dims : List DimensionInfo) (n : ℕ) → n ≤ length dims → pad_to 16 1 (listed (limit_at dims) n 0) ≡ pad_to 16 1 (map choice_limit (take n dims))
-limits-are dims n h = ap (pad_to 16 1) (listed-map choice_limit dims no_dim n h)
+pub limits-are : (ds : List DimensionInfo) → pad_to 16 1 (listed (limit_at ds) (length ds) 0) ≡ pad_to 16 1 (map choice_limit ds)
+limits-are ds = ap (pad_to 16 1) (listed-map choice_limit ds no_dim (length ds) (le_refl (length ds)) ∙ ap (map choice_limit) (take-length ds))
 
-pub limit-few : (dims : List DimensionInfo) (n k : ℕ) → FewChoices (take n dims) → n ≤ length dims → k < n → choices_of (get_or dims k no_dim) ≤ 65535
-limit-few dims n k few len h = let p = count_fits dims n k (choices_of (get_or dims k no_dim)) few len h refl in omega arith
-
-pub limits-of : (dims : List DimensionInfo) (n : ℕ) (ci : Ci) (ls : List ℕ) → ci ≡ continuous_place (take n dims) (record { 0 = n }) → ls ≡ pad_to 16 1 (map choice_limit (take n dims))
-    → record { n = ci.0; choices = ls } ≡ limits_of (take n dims)
-limits-of dims n ci ls e f = rw (e, f, take-take n n dims (le_refl n))
+pub limit-few : (ds : List DimensionInfo) (k : ℕ) → FewChoices ds → k < length ds → choices_of (get_or ds k no_dim) ≤ 65535
+unfolding FewChoices
+limit-few ds k few h = few k h

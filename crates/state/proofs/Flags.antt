@@ -1,18 +1,11 @@
 -- Truth values: a place by whether it is in use, tests that all pass, and two tests that pass together.
+use Rattle.std.specs.Prelude.{Some, slice_get}
 use Prim.Native.Nat.{ℕ, zero, suc}
-use mathlib.Core.Path.{◌≡◌, refl, sym, ap, ap₂, ◌∙◌}
+use mathlib.Core.Path.{◌≡◌, refl, sym, ap₂, ◌∙◌}
 use mathlib.Core.Bool.{Bool, true, false, not, ◌&&◌, cond, true≢false}
 use mathlib.Core.List.{List, [], ◌∷◌}
-use mathlib.Core.Option.{some}
-use lib.ListN.{get_elem?}
 use Rattle.ledger.specs.Words.{every}
 use Rattle.ledger.proofs.Lists.{none≢some, some_inj}
-
-pub if-used : {A : Type 0} {used : Bool} {r a : A} (b : A) → used ≡ true → r ≡ a → r ≡ cond used a b
-if-used {a = a} b u e = e ∙ ap (λ (x : Bool). cond x a b) (sym u)
-
-pub if-unused : {A : Type 0} {used : Bool} {r b : A} (a : A) → used ≡ false → r ≡ b → r ≡ cond used a b
-if-unused {b = b} a u e = e ∙ ap (λ (x : Bool). cond x a b) (sym u)
 
 -- two tests, each by whether the place is in use
 pub both-places : (used a b c d : Bool) {x y : Bool} → x ≡ cond used a b → y ≡ cond used c d → (x && y) ≡ cond used (a && c) (b && d)
@@ -42,7 +35,7 @@ bool-ext true false f g = absurd (true≢false (sym (f refl)))
 bool-ext false true f g = absurd (true≢false (sym (g refl)))
 
 -- the test at place i of those that all pass
-pub every-at : (bs : List Bool) → every bs ≡ true → (i : ℕ) (b : Bool) → get_elem? bs i ≡ some b → b ≡ true
+pub every-at : (bs : List Bool) → every bs ≡ true → (i : ℕ) (b : Bool) → slice_get bs i ≡ Some b → b ≡ true
 every-at [] t i b e = absurd (none≢some e)
 every-at (a ∷ bs) t zero b e = sym (some_inj e) ∙ (true-and a (every bs) t).0
 every-at (a ∷ bs) t (suc i) b e = every-at bs (true-and a (every bs) t).1 i b e

@@ -1,33 +1,22 @@
 -- Tests of one double: which one is a number, which is plus zero, and that the code's tests say so.
-use Prim.Native.Nat.{zero, suc, ◌*◌}
+use Prim.Native.Nat.{zero, suc}
 use mathlib.Core.Path.{◌≡◌, refl, sym, ap, subst, ◌∙◌}
-use mathlib.Core.Bool.{Bool, true, false, not, beq, true≢false}
-use borrow.Author.Tests.{eq-eqb, eqb-true}
+use mathlib.Core.Bool.{Bool, true, false, not, true≢false}
+use borrow.Author.Tests.{eqb-true}
 use lib.Dec.{T, eqb}
 use lib.IntN.{pos, negsuc}
-use lib.Ieee.{Float, nan, inf, fin, eq, ne, fits, is_nan, of_bits, of_fields, to_bits, binary64, up, down, odd}
+use lib.Ieee.{Float, nan, inf, fin, fits, is_nan, of_bits, of_fields, to_bits, binary64, odd}
 use lib.Ieee.Bits.{of_bits-to_bits}
 use lib.Count.{count_trailing_zeros}
 use Rattle.common.specs.Bounds.{zero_f}
 use Rattle.ledger.specs.Soundness.{is_number}
 use Rattle.kernel.specs.Fits.{is_zero}
 
-beq_same : (b : Bool) → beq b b ≡ true
-beq_same true = refl
-beq_same false = refl
-
--- a number equals itself
-pub eq_self : (v : Float) → eq v v ≡ is_number v
-unfolding eq
-eq_self nan = refl
-eq_self (inf s) = beq_same s
-eq_self (fin s m e) = rw (eq-eqb (m * up e * down e) (m * up e * down e) refl, beq_same s)
-
-pub ne-self : (v : Float) → ne v v ≡ is_nan v
-unfolding ne is_nan
-ne-self nan = refl
-ne-self (inf s) = ap not (eq_self (inf s))
-ne-self (fin s m e) = ap not (eq_self (fin s m e))
+pub number-is : (v : Float) → not (is_nan v) ≡ is_number v
+unfolding is_nan
+number-is nan = refl
+number-is (inf s) = refl
+number-is (fin s m e) = refl
 
 -- ---- plus zero, and no other double
 
@@ -50,14 +39,11 @@ unfolding to_bits of_bits
 zero-bits-zero = refl
 
 -- NaN is none
-pub zero-nan : (v : Float) → ne v v ≡ true → false ≡ is_zero v
+pub zero-nan : (v : Float) (b : Bool) → b ≡ is_nan v → b ≡ true → not b ≡ is_zero v
 unfolding is_nan
-zero-nan nan e = refl
-zero-nan (inf s) e = refl
-zero-nan (fin s m d) e = absurd (true≢false (sym e ∙ ne-self (fin s m d)))
-
-pub no_nan : (v : Float) → ne v v ≡ false → T (not (is_nan v))
-no_nan v e = subst (λ (b : Bool). T (not b)) (sym (sym (ne-self v) ∙ e)) tt
+zero-nan nan b e q = ap not q
+zero-nan (inf s) b e q = absurd (true≢false (sym q ∙ e))
+zero-nan (fin s m d) b e q = absurd (true≢false (sym q ∙ e))
 
 -- of the others the bits decide
 pub zero_bits : (v : Float) → fits binary64 v ≡ true → eqb (to_bits binary64 v) 0 ≡ is_zero v

@@ -1,11 +1,11 @@
 -- A plain state that is sound comes back from its layout, which is a sound state again.
+use Rattle.std.specs.Prelude.{Option, Some, None, is_ok}
 use Prim.Native.Nat.{ℕ, zero, suc, ◌-◌, ◌≤◌, max}
 use native.Mathlib.Omega.{arith}
 use native.Mathlib.Nat.{not-suc-le-zero, le_of_suc-le-suc, le_refl}
 use mathlib.Core.Path.{◌≡◌, refl, sym, ap, ◌∙◌}
 use mathlib.Core.Bool.{Bool, true, false, ◌||◌, cond}
 use mathlib.Core.List.{List, [], ◌∷◌, ◌++◌, map}
-use mathlib.Core.Option.{Option, none, some}
 use borrow.Author.Tests.{le-leb, eqb-true, eqb-false}
 use lib.Dec.{eqb}
 use lib.Ieee.{of_bits, of_fields, odd}
@@ -27,8 +27,8 @@ use Rattle.ledger.proofs.SoundTest.{sound-test}
 use Rattle.kernel.specs.De.{de, member_of}
 use Rattle.kernel.specs.Fits.{entries_fit, choices_fit, fits}
 use Rattle.state.specs.Blank.{blank_dim, blank_trial, is_blank_dim, is_blank_trial, is_blank_candidate, is_blank_member}
-use Rattle.state.specs.Setup.{setup_verdict, is_valid}
-use Rattle.state.specs.View.{trial_of, progress_of, parent_of, first_in, first_of, size_in, has_size, size_number, candidate_count, parent_count, view, laid}
+use Rattle.state.specs.Setup.{setup_verdict}
+use Rattle.state.specs.View.{trial_of, progress_of, parent_of, size_in, has_size, size_number, candidate_count, parent_count, view, laid}
 use Rattle.state.specs.Sound.{clean_test, sound_state}
 use Rattle.state.proofs.Flags.{and-true}
 use Rattle.state.proofs.Sizes.{size_few}
@@ -66,21 +66,21 @@ pad-blank p b size k xs e h = rest-blank p b (size - length xs) k xs e h
 -- ---- how much of a layout is in use
 
 size_back : (o : Option ℕ) → size_in (has_size o) (size_number o) ≡ o
-size_back none = refl
-size_back (some n) = refl
+size_back None = refl
+size_back (Some n) = refl
 
-first_back : (o : Option ℕ) → first_in (first_of o) ≡ o
-first_back none = refl
-first_back (some n) = refl
+first_back : (o : Option ℕ) → o ≡ o
+first_back None = refl
+first_back (Some n) = refl
 
 module _ (S : Setup) (m : Plain.State de) (v : Sound de S m) where
   candidates-at : (z : Option ℕ) → m.size ≡ z → length m.candidates ≡ cond (has_size z) (max (size_number z) (length m.trials)) 0
-  candidates-at none e = ap length (v.before e).no_candidates
-  candidates-at (some N) e = (v.after N e).candidates
+  candidates-at None e = ap length (v.before e).no_candidates
+  candidates-at (Some N) e = (v.after N e).candidates
 
   parents-at : (z : Option ℕ) → m.size ≡ z → length m.slots.parents ≡ cond (eqb m.slots.closed 0) 0 (size_number z)
-  parents-at none e = ap (λ (o : Plain.Slots de). length o.parents) (v.before e).no_slots ∙ sym (ap (λ (o : Plain.Slots de). cond (eqb o.closed 0) 0 0) (v.before e).no_slots)
-  parents-at (some N) e = go (eqb m.slots.closed 0) refl
+  parents-at None e = ap (λ (o : Plain.Slots de). length o.parents) (v.before e).no_slots ∙ sym (ap (λ (o : Plain.Slots de). cond (eqb o.closed 0) 0 0) (v.before e).no_slots)
+  parents-at (Some N) e = go (eqb m.slots.closed 0) refl
     where
       some-closed : (k : ℕ) → (k ≡ 0 → ⊥) → 1 ≤ k
       some-closed k h = omega arith
@@ -119,23 +119,23 @@ module _ (S : Setup) (m : Plain.State de) (v : Sound de S m) where
 
   -- ---- the bounds of the arrays
 
-  module _ (ok : is_valid (setup_verdict S) ≡ true) where
-    pub slots-few : (N : ℕ) → m.size ≡ some N → N ≤ 160
+  module _ (ok : is_ok (setup_verdict S) ≡ true) where
+    pub slots-few : (N : ℕ) → m.size ≡ Some N → N ≤ 160
     slots-few N e = omega (arith, (v.after N e).sized, size_few S (length (continuous_dims m.dims)) ok (omega (arith, few-continuous m.dims, v.dims_few)))
 
     pub trials-few : length m.trials ≤ 224
     trials-few = go m.size refl
       where
         go : (z : Option ℕ) → m.size ≡ z → length m.trials ≤ 224
-        go none e = omega (arith, ap length (v.before e).no_trials)
-        go (some N) e = omega (arith, (v.after N e).extras, slots-few N e)
+        go None e = omega (arith, ap length (v.before e).no_trials)
+        go (Some N) e = omega (arith, (v.after N e).extras, slots-few N e)
 
     pub candidates-few : length m.candidates ≤ 224
     candidates-few = go m.size refl
       where
         go : (z : Option ℕ) → m.size ≡ z → length m.candidates ≤ 224
-        go none e = omega (arith, ap length (v.before e).no_candidates)
-        go (some N) e = omega (arith, (v.after N e).candidates, slots-few N e, trials-few)
+        go None e = omega (arith, ap length (v.before e).no_candidates)
+        go (Some N) e = omega (arith, (v.after N e).candidates, slots-few N e, trials-few)
 
     pub parents-few : length m.slots.parents ≤ 160
     parents-few = go m.size refl
@@ -145,8 +145,8 @@ module _ (S : Setup) (m : Plain.State de) (v : Sound de S m) where
         at_most N false h = h
 
         go : (z : Option ℕ) → m.size ≡ z → length m.slots.parents ≤ 160
-        go none e = omega (arith, ap (λ (o : Plain.Slots de). length o.parents) (v.before e).no_slots)
-        go (some N) e = omega (arith, parents-at (some N) e, at_most N (eqb m.slots.closed 0) (slots-few N e))
+        go None e = omega (arith, ap (λ (o : Plain.Slots de). length o.parents) (v.before e).no_slots)
+        go (Some N) e = omega (arith, parents-at (Some N) e, at_most N (eqb m.slots.closed 0) (slots-few N e))
 
     -- ---- and it is sound
 
@@ -163,8 +163,8 @@ module _ (S : Setup) (m : Plain.State de) (v : Sound de S m) where
         refl))))))
       where
         sized-or-none : (z : Option ℕ) → (has_size z || eqb (size_number z) 0) ≡ true
-        sized-or-none none = refl
-        sized-or-none (some n) = refl
+        sized-or-none None = refl
+        sized-or-none (Some n) = refl
 
     pub laid-sound : Laws de → sound_state (laid S m) ≡ true
     unfolding sound_state laid

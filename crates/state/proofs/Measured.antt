@@ -1,4 +1,4 @@
--- What the types of a state's fields say: how long its arrays are, and how large its counters. A function knows it of each State that it is handed.
+-- A function knows `Measured` of each State that it is handed by value, and `Arrays` of one that is lent to it, once it has read those fields.
 use Prim.Native.Nat.{◌≤◌}
 use mathlib.Core.Path.{◌≡◌, sym, subst}
 use mathlib.Core.List.Memᴰ
@@ -16,23 +16,20 @@ use Rattle.evolution.specs.contracts.Member as M
 use Rattle.evolution.specs.declared.Member.{Member}
 use Rattle.ledger.specs.Words.{All}
 use Rattle.ledger.specs.State.{cap}
+pub use Rattle.state.specs.Measured.{Sized, Measured}
 use Rattle.state.specs.declared.State.{State}
 use Rattle.state.specs.contracts.State as S
 
--- a candidate's two arrays
-pub record Sized (c : Candidate) : Type 0 where
-  pub x : length c.x ≡ 16
-  pub choices : length c.choices ≡ 16
-
-pub record Measured (s : State) : Type 0 where
+-- what the test of soundness reads of it
+pub record Arrays (s : State) : Type 0 where
   pub dims : length s.dims ≡ 16
   pub candidates : length s.candidates ≡ 224
   pub parents : length s.parents ≡ 160
   pub trials : length s.trials ≡ 224
-  pub candidates_sized : All Sized s.candidates
-  pub parents_sized : All (λ (m : Member). Sized m.candidate) s.parents
   pub closed : s.closed ≤ cap
-  pub idle : s.idle ≤ cap
+
+pub arrays-of : {s : State} → Measured s → Arrays s
+arrays-of m = record { dims = m.dims; candidates = m.candidates; parents = m.parents; trials = m.trials; closed = m.closed }
 
 -- ---- an array that is a field of a struct: what the type of its elements says holds of each
 

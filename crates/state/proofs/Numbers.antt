@@ -1,42 +1,47 @@
--- Lists of trial numbers: numbers that increase differ, and the loops that test either.
-use Prim.Native.Nat.{ℕ, zero, suc, ◌+◌, ◌-◌, ◌≤◌, ◌<◌}
+-- Lists of trial numbers: numbers that increase differ, and what the code's tests of either answer.
+use Prim.Native.Nat.{ℕ, zero, suc, ◌+◌, ◌<◌}
+use native.Mathlib.Numerals.{add-one}
 use native.Mathlib.Omega.{arith}
 use native.Mathlib.Nat.{not-suc-le-zero, le_of_suc-le-suc}
 use mathlib.Core.Path.{◌≡◌, refl, sym, ap, ◌∙◌}
-use mathlib.Core.Bool.{Bool, true, false, not, ◌&&◌}
-use mathlib.Core.List.{List, [], ◌∷◌, ◌++◌, map, append-nil}
-use borrow.Author.Tests.{eq-eqb, ne_eqb, lt-ltb, le-ltb, ltb-true}
-use lib.Dec.{ltb}
-use lib.ListN.{length, get_or, drop, take, replicate, length-map, length-drop, drop_of_length-le}
-use Rattle.rng_util.specs.Many.{pad_to, listed}
-use Rattle.candidates.proofs.Lists.{next-drop, listed-map}
+use mathlib.Core.Bool.{Bool, true, false, not, ◌&&◌, ◌||◌, cond}
+use mathlib.Core.List.{List, [], ◌∷◌}
+use borrow.Author.Tests.{ne_eqb, lt-ltb, ltb-true}
+use lib.Dec.{eqb, ltb}
+use lib.ListN.{length, get_or}
+use Rattle.std.specs.List.{IsAllAdjacentAnswer, list_any}
 use Rattle.ledger.specs.Words.{has, differing}
 use Rattle.state.specs.Blank.{blank_trial}
-use Rattle.state.specs.Places.{number_at, numbers_of, increasing}
+use Rattle.state.specs.Places.{numbers_of, increasing}
 use Rattle.state.specs.declared.TrialProgress.{TrialProgress}
 use Rattle.state.proofs.Flags.{true-and, and-true}
 
 -- ---- numbers that increase
 
-module _ (ns : List ℕ) (i : ℕ) (h : i + 1 < length ns) where
-  rise : increasing (drop i ns) ≡ (ltb (get_or ns i 0) (get_or ns (i + 1) 0) && increasing (drop (i + 1) ns))
-  unfolding increasing
-  rise = rw (next-drop ns i 0 (omega arith), next-drop ns (i + 1) 0 h)
+abbrev rises : TrialProgress → TrialProgress → Bool
+rises a b = ltb a.number b.number
 
-  pub rise-yes : get_or ns i 0 < get_or ns (i + 1) 0 → increasing (drop i ns) ≡ increasing (drop (i + 1) ns)
-  rise-yes q = rise ∙ ap (λ (b : Bool). b && increasing (drop (i + 1) ns)) (lt-ltb _ _ q)
-
-  pub rise-no : get_or ns (i + 1) 0 ≤ get_or ns i 0 → increasing (drop i ns) ≡ false
-  rise-no q = rise ∙ ap (λ (b : Bool). b && increasing (drop (i + 1) ns)) (le-ltb _ _ q)
-
-few-rise : (ns : List ℕ) → length ns ≤ 1 → increasing ns ≡ true
+rising : (ts : List TrialProgress) → ((k : ℕ) → k + 1 < length ts → true ≡ rises (get_or ts k blank_trial) (get_or ts (k + 1) blank_trial)) → true ≡ increasing (numbers_of ts)
 unfolding increasing
-few-rise [] h = refl
-few-rise (n ∷ []) h = refl
-few-rise (n ∷ m ∷ ns) h = absurd (not-suc-le-zero (le_of_suc-le-suc h))
+rising [] h = refl
+rising (t ∷ []) h = refl
+rising (t ∷ u ∷ ts) h =
+    sym (and-true (sym (h 0 (omega arith))) (sym (rising (u ∷ ts) (λ k l. let e : true ≡ rises (get_or (t ∷ u ∷ ts) (suc k) blank_trial) (get_or (t ∷ u ∷ ts) (suc k + 1) blank_trial) = h (suc k) (omega (arith, l)) in rw add-one (rw add-one at e)))))
 
-pub rise-end : (ns : List ℕ) (i : ℕ) → length ns ≤ i + 1 → increasing (drop i ns) ≡ true
-rise-end ns i h = few-rise (drop i ns) (omega (arith, length-drop i ns))
+not-rising : (ts : List TrialProgress) (k : ℕ) → suc k < length ts → false ≡ rises (get_or ts k blank_trial) (get_or ts (suc k) blank_trial) → false ≡ increasing (numbers_of ts)
+unfolding increasing
+not-rising [] k h e = absurd (not-suc-le-zero h)
+not-rising (t ∷ []) k h e = absurd (not-suc-le-zero (le_of_suc-le-suc h))
+not-rising (t ∷ u ∷ ts) zero h e = ap (λ (b : Bool). b && increasing (numbers_of (u ∷ ts))) e
+not-rising (t ∷ u ∷ ts) (suc k) h e = and_no (rises t u) ∙ ap (λ (b : Bool). rises t u && b) (not-rising (u ∷ ts) k (le_of_suc-le-suc h) e)
+  where
+    and_no : (b : Bool) → false ≡ (b && false)
+    and_no true = refl
+    and_no false = refl
+
+pub increasing-is : (ts : List TrialProgress) (r : Bool) → IsAllAdjacentAnswer (λ a b s. s ≡ rises a b) ts r → r ≡ increasing (numbers_of ts)
+increasing-is ts true h = rising ts (λ k l. h k blank_trial l)
+increasing-is ts false h = not-rising ts h.0 (rw add-one at h.1) (rw add-one at (h.2 blank_trial))
 
 -- a number below the first of those is none of them
 below_none : (k : ℕ) (ns : List ℕ) → increasing (k ∷ ns) ≡ true → has ns k ≡ false
@@ -59,57 +64,31 @@ rising-differ [] e = refl
 rising-differ (n ∷ []) e = unfold has in refl
 rising-differ (n ∷ m ∷ ns) e = and-true (ap not (below_none n (m ∷ ns) e)) (rising-differ (m ∷ ns) (true-and (ltb n m) (increasing (m ∷ ns)) e).1)
 
--- ---- numbers that differ
+-- ---- a number among the trials'
 
-module _ (ns : List ℕ) (j m : ℕ) where
-  pub has-yes : j < length ns → get_or ns j 0 ≡ m → has (drop j ns) m ≡ true
-  unfolding has
-  has-yes h e = rw (next-drop ns j 0 h) (rw (eq-eqb _ _ e))
-
-  pub has_no : j < length ns → (get_or ns j 0 ≡ m → ⊥) → has (drop j ns) m ≡ has (drop (j + 1) ns) m
-  unfolding has
-  has_no h e = rw (next-drop ns j 0 h) (rw (ne_eqb _ _ e))
-
-  pub has_end : length ns ≤ j → has (drop j ns) m ≡ false
-  unfolding has
-  has_end h = rw (drop_of_length-le ns {i = j} h)
-
-module _ (ns : List ℕ) (i : ℕ) (t : Bool) (h : i < length ns) (e : t ≡ not (has (drop (i + 1) ns) (get_or ns i 0))) where
-  differ-next : differing (drop i ns) ≡ (t && differing (drop (i + 1) ns))
-  unfolding differing
-  differ-next = rw (next-drop ns i 0 h) (ap (λ (b : Bool). b && differing (drop (i + 1) ns)) (sym e))
-
-  pub differ-yes : t ≡ true → differing (drop i ns) ≡ differing (drop (i + 1) ns)
-  differ-yes f = differ-next ∙ ap (λ (b : Bool). b && differing (drop (i + 1) ns)) f
-
-  pub differ-no : t ≡ false → differing (drop i ns) ≡ false
-  differ-no f = differ-next ∙ ap (λ (b : Bool). b && differing (drop (i + 1) ns)) f
-
-pub differ-end : (ns : List ℕ) (i : ℕ) → length ns ≤ i → differing (drop i ns) ≡ true
-unfolding differing
-differ-end ns i h = rw (drop_of_length-le ns {i = i} h)
-
--- ---- the numbers, read out of the trials
-
-take_all : {A : Type 0} (xs : List A) → take (length xs) xs ≡ xs
-take_all [] = refl
-take_all (x ∷ xs) = ap (λ (l : List _). x ∷ l) (take_all xs)
-
--- as many as there are places
-pub read_out : {A : Type 0} (f : A → ℕ) (xs : List A) (z : A) (n : ℕ) → length xs ≡ n → pad_to n 0 (listed (λ (j : ℕ). f (get_or xs j z)) n 0) ≡ map f xs
-read_out f xs z n e =
-    let r : listed (λ (j : ℕ). f (get_or xs j z)) n 0 ≡ map f xs = listed-map f xs z n (omega (arith, e)) ∙ ap (map f) (ap (λ (k : ℕ). take k xs) (sym e) ∙ take_all xs) in
-    let k : n - length (map f xs) ≡ 0 = omega (arith, length-map xs f) in
-    ap (pad_to n 0) r ∙ ap (λ (j : ℕ). map f xs ++ replicate j 0) k ∙ append-nil (map f xs)
-
-pub take-numbers : (n : ℕ) (ts : List TrialProgress) (ns : List ℕ) → ns ≡ numbers_of ts → take n ns ≡ numbers_of (take n ts)
-take-numbers n ts ns e = ap (take n) e ∙ go n ts
+pub has-any : (ts : List TrialProgress) (n : ℕ) → list_any (λ (t : TrialProgress). eqb t.number n) ts ≡ has (numbers_of ts) n
+unfolding has
+has-any [] n = refl
+has-any (t ∷ ts) n = go (eqb t.number n) ∙ ap (λ (b : Bool). cond (eqb t.number n) true b) (has-any ts n)
   where
-    go : (n : ℕ) (ts : List TrialProgress) → take n (map number_at ts) ≡ map number_at (take n ts)
-    go zero ts = refl
-    go (suc n) [] = refl
-    go (suc n) (t ∷ ts) = ap (λ (l : List ℕ). number_at t ∷ l) (go n ts)
+    go : (b : Bool) → (b || list_any (λ (t : TrialProgress). eqb t.number n) ts) ≡ cond b true (list_any (λ (t : TrialProgress). eqb t.number n) ts)
+    go true = refl
+    go false = refl
 
--- the number of the trial at a place
-abbrev pub number_in : List TrialProgress → ℕ → ℕ
-number_in ts j = number_at (get_or ts j blank_trial)
+-- ---- numbers that differ: the first against those after it
+
+module _ (rest later : List TrialProgress) (t : TrialProgress) (r : Bool) (e : rest ≡ t ∷ later) (q : r ≡ has (numbers_of later) t.number) where
+  differ-next : differing (numbers_of rest) ≡ (not r && differing (numbers_of later))
+  unfolding differing
+  differ-next = rw (e, q)
+
+  pub differ-found : r ≡ true → differing (numbers_of rest) ≡ false
+  differ-found f = differ-next ∙ ap (λ (b : Bool). not b && differing (numbers_of later)) f
+
+  pub differ-on : r ≡ false → differing (numbers_of rest) ≡ differing (numbers_of later)
+  differ-on f = differ-next ∙ ap (λ (b : Bool). not b && differing (numbers_of later)) f
+
+pub differ-none : (ts : List TrialProgress) → length ts ≡ 0 → differing (numbers_of ts) ≡ true
+unfolding differing
+differ-none [] e = refl
+differ-none (t ∷ ts) e = absurd (let q : suc (length ts) ≡ 0 = e in omega arith)

@@ -18,15 +18,11 @@ use Rattle.ledger.specs.Soundness.{is_number}
 use Rattle.kernel.specs.De.{de}
 use Rattle.kernel.specs.Fits.{fits}
 use Rattle.state.specs.Blank.{is_blank_dim, is_blank_trial, is_blank_candidate, is_blank_member}
-use Rattle.state.specs.View.{trial_of, parent_of, candidate_count, parent_count}
-use Rattle.state.specs.Places.{places_fit, passes, next_fits, member_fits, numbers_of, counts_sound, counts_of}
+use Rattle.state.specs.View.{trial_of, parent_of, candidate_count, parent_count, dims_of}
+use Rattle.state.specs.Places.{places_fit, passes, next_fits, member_fits, numbers_of, counts_sound}
 use Rattle.state.specs.declared.State.{State}
 use Rattle.state.specs.declared.TrialProgress.{TrialProgress}
 use Rattle.state.proofs.Flags.{true-and, and-true}
-
--- the dimensions in use
-abbrev pub dims_of : State → List DimensionInfo
-dims_of s = take s.n_dims s.dims
 
 abbrev pub parents_of : State → List (Parent Candidate)
 parents_of s = map parent_of (take (parent_count s) s.parents)
@@ -34,7 +30,7 @@ parents_of s = map parent_of (take (parent_count s) s.parents)
 pub record Parts (s : State) : Type 0 where
   pub few_dims : s.n_dims ≤ 16
   pub dims : places_fit passes is_blank_dim s.n_dims s.dims ≡ true
-  pub counts : counts_sound s.setup s.first s.discovered (continuous_count (dims_of s)) (counts_of s) ≡ true
+  pub counts : counts_sound (continuous_count (dims_of s)) s ≡ true
   pub candidates : places_fit (fits (dims_of s)) is_blank_candidate (candidate_count s) s.candidates ≡ true
   pub trials : places_fit (next_fits s.n_dims) is_blank_trial s.n_trials s.trials ≡ true
   pub differ : differing (numbers_of (take s.n_trials s.trials)) ≡ true

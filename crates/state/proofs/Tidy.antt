@@ -1,4 +1,5 @@
 -- A state that passes the test is its view laid out, and its view is sound.
+use Rattle.std.specs.Prelude.{Option, Some, None, is_ok}
 use Prim.Native.Nat.{ℕ, zero, suc, ◌-◌, ◌≤◌}
 use native.Mathlib.Omega.{arith}
 use mathlib.Core.Path.{◌≡◌, refl, sym, ap, subst, ◌∙◌}
@@ -26,18 +27,16 @@ use Rattle.ledger.proofs.SoundTest.{sound-test}
 use Rattle.kernel.specs.De.{de, member_of}
 use Rattle.kernel.specs.Fits.{is_zero, entries_fit, choices_fit, fits}
 use Rattle.state.specs.Blank.{blank_dim, blank_trial, is_blank_distribution, is_blank_dim, is_blank_trial, is_blank_candidate, is_blank_member}
-use Rattle.state.specs.Setup.{setup_verdict, is_valid}
-use Rattle.state.specs.View.{trial_of, progress_of, parent_of, first_in, first_of, size_in, has_size, size_number, candidate_count, parent_count, view, laid}
-use Rattle.state.specs.Sound.{clean_test, sound_state}
-use Rattle.state.specs.declared.FirstTrial.{FirstTrial}
-use Rattle.state.specs.declared.FirstTrial.TheVariants.{Unnamed, Named}
+use Rattle.state.specs.Setup.{setup_verdict}
+use Rattle.state.specs.View.{trial_of, progress_of, parent_of, size_in, has_size, size_number, candidate_count, parent_count, view, laid}
+use Rattle.state.specs.Sound.{clean_test, sound_state, Few}
 use Rattle.state.specs.declared.State.{State}
 use Rattle.state.specs.declared.TrialProgress.{TrialProgress}
 use Rattle.state.proofs.Flags.{true-and}
 use Rattle.state.proofs.Floats.{zero-true}
 use Rattle.state.proofs.Laid.{back}
-use Rattle.state.proofs.Measured.{Sized, Measured}
-use Rattle.state.proofs.Whole.{Few, Clean, clean_of, of-sound, few-of, few-candidates, few-parents}
+use Rattle.state.proofs.Measured.{Sized, Measured, arrays-of}
+use Rattle.state.proofs.Whole.{Clean, clean_of, of-sound, few-of, few-candidates, few-parents}
 
 -- ---- what passes a test of blankness is blank
 
@@ -95,9 +94,9 @@ module _ {A : Type 0} (b : A) (n size : ℕ) (xs : List A) (l : length xs ≡ si
   pub padded-by : {B : Type 0} (f : A → B) (g : B → A) → ((a : A) → g (f a) ≡ a) → pad_to size b (map g (map f (take n xs))) ≡ xs
   padded-by f g h = ap (pad_to size b) (back g f (take n xs) h) ∙ padded
 
-first-again : (f : FirstTrial) → first_of (first_in f) ≡ f
-first-again Unnamed = refl
-first-again (Named n) = refl
+first-again : (f : Option ℕ) → f ≡ f
+first-again None = refl
+first-again (Some n) = refl
 
 has-again : (d : Bool) (n : ℕ) → has_size (size_in d n) ≡ d
 has-again true n = refl
@@ -109,7 +108,7 @@ number-again false n e = sym (eqb-true n 0 e)
 
 -- ---- the whole
 
-again : (s : State) (m : Measured s) → Few s → Clean s m → laid s.setup (view s) ≡ s
+again : (s : State) (m : Measured s) → Few s → Clean s (arrays-of m) → laid s.setup (view s) ≡ s
 unfolding laid view
 again s m f k = λ i.
     record {
@@ -119,9 +118,9 @@ again s m f k = λ i.
       n = number-again s.discovered s.n k.no_slots i;
       n_dims = length-take-le s.n_dims s.dims (omega (arith, m.dims, k.few_dims)) i;
       dims = padded blank_dim s.n_dims 16 s.dims m.dims k.few_dims (same-all is_blank_dim blank_dim (drop s.n_dims s.dims) blank-dim k.dims) i;
-      candidates = padded blank_candidate (candidate_count s) 224 s.candidates m.candidates (few-candidates s m f)
+      candidates = padded blank_candidate (candidate_count s) 224 s.candidates m.candidates (few-candidates s f)
           (same_known is_blank_candidate blank_candidate Sized (drop (candidate_count s) s.candidates) (known-drop Sized (candidate_count s) s.candidates m.candidates_sized) blank-candidate k.candidates) i;
-      parents = padded-by blank_member (parent_count s) 160 s.parents m.parents (few-parents s m f)
+      parents = padded-by blank_member (parent_count s) 160 s.parents m.parents (few-parents s f)
           (same_known is_blank_member blank_member (λ (p : Member). Sized p.candidate) (drop (parent_count s) s.parents) (known-drop (λ (p : Member). Sized p.candidate) (parent_count s) s.parents m.parents_sized) blank-member k.parents)
           parent_of member_of (λ a. refl) i;
       n_trials = (length-map (take s.n_trials s.trials) trial_of ∙ length-take-le s.n_trials s.trials (omega (arith, m.trials, k.few_trials))) i;
@@ -133,23 +132,23 @@ again s m f k = λ i.
     }
 
 module _ (s : State) (e : sound_state s ≡ true) where
-  pub setup-valid : is_valid (setup_verdict s.setup) ≡ true
+  pub setup-valid : is_ok (setup_verdict s.setup) ≡ true
   unfolding sound_state
-  setup-valid = (true-and (is_valid (setup_verdict s.setup)) _ (true-and (clean_test s) _ e).1).0
+  setup-valid = (true-and (is_ok (setup_verdict s.setup)) _ (true-and (clean_test s) _ e).1).0
 
   pub view-sound : Laws de → Sound de s.setup (view s)
   unfolding sound_state
   view-sound L =
-      let r = true-and (is_valid (setup_verdict s.setup)) (sound_test de s.setup (view s)) (true-and (clean_test s) _ e).1 in
+      let r = true-and (is_ok (setup_verdict s.setup)) (sound_test de s.setup (view s)) (true-and (clean_test s) _ e).1 in
       (sound-test de L s.setup (view s)).0 (subst T (sym r.1) tt)
 
   module _ (m : Measured s) where
-    clean : Clean s m
+    clean : Clean s (arrays-of m)
     unfolding sound_state
-    clean = clean_of s m (true-and (clean_test s) _ e).0
+    clean = clean_of s (arrays-of m) (true-and (clean_test s) _ e).0
 
     pub sound-few : Few s
-    sound-few = few-of s clean.few_dims (of-sound s m e).counts
+    sound-few = few-of s clean.few_dims (of-sound s (arrays-of m) e).counts
 
     pub is-laid : s ≡ laid s.setup (view s)
     is-laid = sym (again s m sound-few clean)

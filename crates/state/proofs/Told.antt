@@ -1,13 +1,13 @@
 -- What each step of the soundness test tells: dimensions that pass have few choices, N is in bounds, the best slot of parents that pass is the first least.
+use Rattle.std.specs.Prelude.{Option, Some, None, is_none}
 use Prim.Native.Nat.{ℕ, zero, suc, ◌≤◌, ◌<◌}
 use native.Mathlib.Omega.{arith}
 use native.Mathlib.Nat.{not-suc-le-zero, le_of_suc-le-suc}
 use mathlib.Core.Path.{◌≡◌, refl, sym, ap, subst, ◌∙◌}
 use mathlib.Core.Logic.{◌≢◌}
-use mathlib.Core.Bool.{Bool, true, false, true≢false}
+use mathlib.Core.Bool.{Bool, true, true≢false, ◌&&◌}
 use mathlib.Core.List.Memᴰ
 use mathlib.Core.List.{List, [], ◌∷◌, map}
-use mathlib.Core.Option.{Option, none, some}
 use lib.Dec.{eqb}
 use lib.Ieee.{Float, nan, inf, fin}
 use lib.ListN.{length, get_or, take, length-take}
@@ -17,39 +17,34 @@ use Rattle.distribution.specs.Validate.{judged}
 use Rattle.distribution.specs.declared.DimensionInfo.{DimensionInfo}
 use Rattle.distribution.specs.declared.Distribution.{Distribution}
 use Rattle.distribution.specs.declared.Distribution.TheVariants.{Float as FloatD, Int as IntD, Categorical}
-use Rattle.distribution.specs.declared.Verdict.{Verdict}
 use Rattle.distribution.proofs.Meaning.{judged-good}
 use Rattle.candidates.specs.Space.{FewChoices}
+use Rattle.candidates.specs.declared.Candidate.{Candidate}
 use Rattle.candidates.proofs.Passed.{few-continuous}
 use Rattle.evolution.specs.declared.Member.{Member}
-use Rattle.evolution.specs.declared.Setup.{Setup}
 use Rattle.selection.specs.Best.{values, best_slot}
-use Rattle.selection.specs.Size.{size_of}
 use Rattle.selection.proofs.Best.{Numbers, best-is}
-use Rattle.ledger.specs.Words.{is_some, is_none, all}
+use Rattle.ledger.specs.Words.{all, differing}
 use Rattle.ledger.specs.State as Plain
 use Rattle.ledger.specs.Closing.{best_of}
 use Rattle.ledger.specs.Soundness.{is_number}
 use Rattle.kernel.specs.De.{de}
 use Rattle.kernel.specs.Fits.{fits}
-use Rattle.state.specs.Blank.{is_blank_dim, is_blank_candidate, is_blank_member}
-use Rattle.state.specs.Setup.{setup_verdict, is_valid}
-use Rattle.state.specs.View.{parent_of, first_in, candidate_count, parent_count}
-use Rattle.state.specs.Places.{places_fit, passes, member_fits, limits_of, running_counts, discovering_counts, counts_sound, counts_of}
-use Rattle.state.specs.declared.FirstTrial.{FirstTrial}
+use Rattle.state.specs.Blank.{is_blank_dim, is_blank_candidate, is_blank_trial, is_blank_member}
+use Rattle.state.specs.Sound.{Few}
+use Rattle.state.specs.View.{parent_of, candidate_count, parent_count, dims_of, trials_of, members_of}
+use Rattle.state.specs.Places.{places_fit, passes, next_fits, member_fits, numbers_of, limits_of, counts_sound}
 use Rattle.state.specs.declared.State.{State}
 use Rattle.state.specs.declared.places.Limits.{Limits}
-use Rattle.state.specs.declared.sound.Counts.{Counts}
-use Rattle.state.proofs.Flags.{true-and}
-use Rattle.state.proofs.Sizes.{size_few}
-use Rattle.state.proofs.Parts.{dims_of, parents_of, split_places}
-use Rattle.state.proofs.Whole.{count_test}
+use Rattle.state.proofs.Flags.{true-and, five, all-five}
+use Rattle.state.proofs.Parts.{Parts, parents_of, split_places}
+use Rattle.state.proofs.Whole.{count_test, few-of}
 
 -- ---- dimensions that pass 7
 
-none_of : (o : Option ℕ) → is_none o ≡ true → o ≡ none
-none_of none e = refl
-none_of (some n) e = absurd (true≢false (sym e))
+none_of : (o : Option ℕ) → is_none o ≡ true → o ≡ None
+none_of None e = refl
+none_of (Some n) e = absurd (true≢false (sym e))
 
 good-few : (d : Distribution) → Good d → choices d ≤ 65535
 good-few (FloatD f) g = omega arith
@@ -62,31 +57,9 @@ all-few [] e i h = absurd (not-suc-le-zero h)
 all-few (d ∷ ds) e zero h = good-few d.distribution (judged-good d.distribution (none_of (judged d.distribution) (true-and (passes d) (all passes ds) e).0))
 all-few (d ∷ ds) e (suc i) h = all-few ds (true-and (passes d) (all passes ds) e).1 i (le_of_suc-le-suc h)
 
-pub few_choices : (n : ℕ) (dims : List DimensionInfo) → places_fit passes is_blank_dim n dims ≡ true → FewChoices (take n dims)
+pub dims-fit : (s : State) → places_fit passes is_blank_dim s.n_dims s.dims ≡ true → s.n_dims ≤ 16 → (length (dims_of s) ≤ 16) × FewChoices (dims_of s)
 unfolding FewChoices
-few_choices n dims e = all-few (take n dims) (split_places passes is_blank_dim n dims e).0
-
--- ---- the counts
-
-pub size_fits : (S : Setup) (v : Verdict) (t : Bool) → v ≡ setup_verdict S → t ≡ is_valid v → t ≡ true → (nc size : ℕ) → nc ≤ 16 → size ≡ size_of S.population_size nc → size ≤ 160
-size_fits S v t e f g nc size h z = rw z (size_few S nc (sym (f ∙ ap is_valid e) ∙ g) h)
-
-module _ (S : Setup) (first : FirstTrial) (d : Bool) (nc : ℕ) (c : Counts) (v : Verdict) (t : Bool) (e : v ≡ setup_verdict S) (f : t ≡ is_valid v) where
-  valid-is : is_valid (setup_verdict S) ≡ t
-  valid-is = sym (f ∙ ap is_valid e)
-
-  pub counts-invalid : t ≡ false → false ≡ counts_sound S first d nc c
-  unfolding counts_sound
-  counts-invalid g = sym (rw (valid-is ∙ g))
-
-  module _ (g : t ≡ true) (named : Bool) (q : named ≡ is_some (first_in first)) (r : Bool) where
-    pub counts-running : d ≡ true → (size : ℕ) → size ≡ size_of S.population_size nc → r ≡ running_counts named size c → r ≡ counts_sound S first d nc c
-    unfolding counts_sound
-    counts-running u size z w = w ∙ sym (rw (valid-is ∙ g, u, ← z, ← q))
-
-    pub counts-discovering : d ≡ false → r ≡ discovering_counts named c → r ≡ counts_sound S first d nc c
-    unfolding counts_sound
-    counts-discovering u w = w ∙ sym (rw (valid-is ∙ g, u, ← q))
+dims-fit s e h = (omega (arith, length-take s.n_dims s.dims), all-few (dims_of s) (split_places passes is_blank_dim s.n_dims s.dims e).0)
 
 -- ---- the best slot
 
@@ -120,18 +93,48 @@ module _ (s : State) (limits : Limits) (few : s.n_dims ≤ 16) (e : limits ≡ l
   pub continuous-few : limits.n ≤ 16
   continuous-few = rw e (omega (arith, few-continuous (dims_of s), dims_few))
 
-  pub counts-told : {t : Bool} → t ≡ counts_sound s.setup s.first s.discovered limits.n (counts_of s) → t ≡ count_test s
-  counts-told q = q ∙ ap (λ (l : Limits). counts_sound s.setup s.first s.discovered l.n (counts_of s)) e
+  pub counts-told : {t : Bool} → t ≡ counts_sound limits.n s → t ≡ count_test s
+  counts-told q = q ∙ ap (λ (l : Limits). counts_sound l.n s) e
 
-  pub candidates-told : {t : Bool} {k : ℕ} → k ≡ candidate_count s → ((ds : List DimensionInfo) → length ds ≤ 16 → limits ≡ limits_of ds → t ≡ places_fit (fits ds) is_blank_candidate k s.candidates)
-      → t ≡ places_fit (fits (dims_of s)) is_blank_candidate (candidate_count s) s.candidates
-  candidates-told k q = q (dims_of s) dims_few e ∙ ap (λ (j : ℕ). places_fit (fits (dims_of s)) is_blank_candidate j s.candidates) k
+  pub few-told : {t : Bool} → t ≡ counts_sound limits.n s → t ≡ true → Few s
+  few-told q f = few-of s few (sym (counts-told q) ∙ f)
 
-  pub parents-told : {t : Bool} {k : ℕ} → k ≡ parent_count s → ((ds : List DimensionInfo) → length ds ≤ 16 → limits ≡ limits_of ds → t ≡ places_fit (member_fits ds) is_blank_member k s.parents)
-      → t ≡ places_fit (member_fits (dims_of s)) is_blank_member (parent_count s) s.parents
-  parents-told k q = q (dims_of s) dims_few e ∙ ap (λ (j : ℕ). places_fit (member_fits (dims_of s)) is_blank_member j s.parents) k
+  pub fits-told : (c : Candidate) (r : Bool) → ((ds : List DimensionInfo) → length ds ≤ 16 → limits ≡ limits_of ds → r ≡ fits ds c) → r ≡ fits (dims_of s) c
+  fits-told c r f = f (dims_of s) dims_few e
 
-pub best-told : (s : State) (k b : ℕ) → k ≡ parent_count s → b ≡ best_slot (values (take k s.parents)) → places_fit (member_fits (dims_of s)) is_blank_member (parent_count s) s.parents ≡ true
-    → eqb s.best b ≡ eqb s.best (best_of (Plain.values de (parents_of s)))
-best-told s k b e f p =
-    ap (eqb s.best) (f ∙ ap (λ (j : ℕ). best_slot (values (take j s.parents))) e ∙ best-are (dims_of s) (parent_count s) s.parents p)
+  pub member-told : (m : Member) (r : Bool) → ((ds : List DimensionInfo) → length ds ≤ 16 → limits ≡ limits_of ds → r ≡ member_fits ds m) → r ≡ member_fits (dims_of s) m
+  member-told m r f = f (dims_of s) dims_few e
+
+-- ---- the last five tests, as the code joins them
+
+module _ (s : State) (candidates trials parents differ : Bool) (best : ℕ) where
+  abbrev joined : Bool
+  joined = candidates && trials && parents && differ && eqb s.best best
+
+  module _
+      (at_candidates : candidates ≡ places_fit (fits (dims_of s)) is_blank_candidate (candidate_count s) s.candidates)
+      (at_trials : trials ≡ places_fit (next_fits s.n_dims) is_blank_trial s.n_trials s.trials)
+      (at_parents : parents ≡ places_fit (member_fits (dims_of s)) is_blank_member (parent_count s) s.parents)
+      (at_differ : differ ≡ differing (numbers_of (trials_of s)))
+      (at_best : best ≡ best_slot (values (members_of s))) where
+    best-told : parents ≡ true → eqb s.best best ≡ eqb s.best (best_of (Plain.values de (parents_of s)))
+    best-told e = ap (eqb s.best) (at_best ∙ best-are (dims_of s) (parent_count s) s.parents (sym at_parents ∙ e))
+
+    pub pass-all : Parts s → joined ≡ true
+    pass-all p =
+        let five = at_parents ∙ p.parents in
+        all-five (at_candidates ∙ p.candidates) (at_trials ∙ p.trials) five (at_differ ∙ p.differ) (best-told five ∙ p.best)
+
+    pub all-pass : s.n_dims ≤ 16 → places_fit passes is_blank_dim s.n_dims s.dims ≡ true → count_test s ≡ true → joined ≡ true → Parts s
+    all-pass n dims counts e =
+        let f = five candidates trials parents differ (eqb s.best best) e in
+        record {
+          few_dims = n;
+          dims = dims;
+          counts = counts;
+          candidates = sym at_candidates ∙ f.0;
+          trials = sym at_trials ∙ f.1;
+          differ = sym at_differ ∙ f.3;
+          parents = sym at_parents ∙ f.2;
+          best = sym (best-told f.2) ∙ f.4;
+        }

@@ -1,10 +1,10 @@
 -- A state is sound exactly where all parts pass: clause by clause, the definition's test of the view against the code's of counts and arrays.
+use Rattle.std.specs.Prelude.{Some, None, is_some, is_ok}
 use Prim.Native.Nat.{ℕ, ◌+◌, ◌≤◌, max}
 use native.Mathlib.Omega.{arith}
 use mathlib.Core.Path.{◌≡◌, refl, sym, ap, ◌∙◌}
 use mathlib.Core.Bool.{Bool, true, false, ◌||◌, cond, beq, true≢false}
 use mathlib.Core.List.{List, [], map}
-use mathlib.Core.Option.{none, some}
 use borrow.Author.Tests.{le-leb, leb-true, eq-eqb, eqb-true}
 use lib.Dec.{eqb, leb}
 use lib.ListN.{length, take, drop, length-map, length-take}
@@ -13,7 +13,7 @@ use Rattle.candidates.specs.Space.{continuous_count}
 use Rattle.candidates.specs.declared.Candidate.{Candidate}
 use Rattle.candidates.proofs.Passed.{few-continuous}
 use Rattle.selection.specs.Size.{size_of}
-use Rattle.ledger.specs.Words.{is_some, all, every, is_empty, differing}
+use Rattle.ledger.specs.Words.{all, every, is_empty, differing}
 use Rattle.ledger.specs.Kernel.{Parent}
 use Rattle.ledger.specs.State as Plain
 use Rattle.ledger.specs.Closing.{best_of}
@@ -21,44 +21,40 @@ use Rattle.ledger.specs.Soundness.{is_number, discovering_tests, running_tests, 
 use Rattle.kernel.specs.De.{de}
 use Rattle.kernel.specs.Fits.{fits}
 use Rattle.state.specs.Blank.{is_blank_dim, is_blank_trial, is_blank_candidate, is_blank_member}
-use Rattle.state.specs.Setup.{setup_verdict, is_valid}
-use Rattle.state.specs.View.{trial_of, parent_of, first_in, size_in, candidate_count, parent_count, view}
-use Rattle.state.specs.Places.{passes, next_fits, member_fits, discovering_counts, running_counts, counts_sound, counts_of}
-use Rattle.state.specs.Sound.{clean_tests, clean_test, sound_state}
+use Rattle.state.specs.Setup.{setup_verdict}
+use Rattle.state.specs.View.{trial_of, parent_of, size_in, dims_of, candidate_count, parent_count, view}
+use Rattle.state.specs.Places.{passes, next_fits, member_fits, discovering_counts, running_counts, counts_sound}
+use Rattle.state.specs.Sound.{clean_tests, clean_test, sound_state, Few}
 use Rattle.state.specs.declared.State.{State}
 use Rattle.state.proofs.Flags.{true-and, and-true, bool-ext, every-at, five, all-five}
-use Rattle.state.proofs.Measured.{Measured}
-use Rattle.state.proofs.Parts.{Parts, dims_of, parents_of, all_map, numbers-are, none_of, empty_of, split_places, join-places, split-parents, join-parents}
+use Rattle.state.proofs.Measured.{Arrays}
+use Rattle.state.proofs.Parts.{Parts, parents_of, all_map, numbers-are, none_of, empty_of, split_places, join-places, split-parents, join-parents}
 use Rattle.state.proofs.Sizes.{size_few}
 
 abbrev named : State → Bool
-named s = is_some (first_in s.first)
+named s = is_some s.first
 
 abbrev size_for : State → ℕ
 size_for s = size_of s.setup.population_size (continuous_count (dims_of s))
 
 -- the counts' test, by whether discovery has ended
 abbrev phase_counts : State → Bool → Bool
-phase_counts s d = cond d (running_counts (named s) (size_for s) (counts_of s)) (discovering_counts (named s) (counts_of s))
+phase_counts s d = cond d (running_counts (size_for s) s) (discovering_counts s)
 
 abbrev pub count_test : State → Bool
-count_test s = counts_sound s.setup s.first s.discovered (continuous_count (dims_of s)) (counts_of s)
+count_test s = counts_sound (continuous_count (dims_of s)) s
 
-split-counts : (s : State) → count_test s ≡ true → (is_valid (setup_verdict s.setup) ≡ true) × (phase_counts s s.discovered ≡ true)
+split-counts : (s : State) → count_test s ≡ true → (is_ok (setup_verdict s.setup) ≡ true) × (phase_counts s s.discovered ≡ true)
 unfolding counts_sound
-split-counts s e = true-and (is_valid (setup_verdict s.setup)) _ e
+split-counts s e = true-and (is_ok (setup_verdict s.setup)) _ e
 
-join-counts : (s : State) (d : Bool) → s.discovered ≡ d → is_valid (setup_verdict s.setup) ≡ true → phase_counts s d ≡ true → count_test s ≡ true
+join-counts : (s : State) (d : Bool) → s.discovered ≡ d → is_ok (setup_verdict s.setup) ≡ true → phase_counts s d ≡ true → count_test s ≡ true
 unfolding counts_sound
 join-counts s d q ok e = and-true ok (ap (phase_counts s) q ∙ e)
 
 -- ---- N and the trials are few
 
-pub record Few (s : State) : Type 0 where
-  pub slots : s.n ≤ 160
-  pub trials : s.n_trials ≤ 224
-
-module _ (s : State) (ok : is_valid (setup_verdict s.setup) ≡ true) (few_dims : s.n_dims ≤ 16) where
+module _ (s : State) (ok : is_ok (setup_verdict s.setup) ≡ true) (few_dims : s.n_dims ≤ 16) where
   size-at-most : size_for s ≤ 160
   size-at-most = size_few s.setup (continuous_count (dims_of s)) ok (omega (arith, few-continuous (dims_of s), length-take s.n_dims s.dims))
 
@@ -69,44 +65,44 @@ module _ (s : State) (ok : is_valid (setup_verdict s.setup) ≡ true) (few_dims 
       let n : s.n ≡ size_for s = eqb-true s.n (size_for s) r.2 in
       let t : s.n_trials ≤ size_for s + 64 = leb-true s.n_trials (size_for s + 64) r.3 in
       let z : size_for s ≤ 160 = size-at-most in
-      record { slots = omega arith; trials = omega arith }
+      record { dims = few_dims; slots = omega arith; trials = omega arith }
   counts-few false e =
       let r = five (eqb s.n 0) (eqb s.n_trials 0) (eqb s.closed 0) (eqb s.idle 0) (beq (named s) (leb 1 s.n_dims)) e in
       let n : s.n ≡ 0 = eqb-true s.n 0 r.0 in
       let t : s.n_trials ≡ 0 = eqb-true s.n_trials 0 r.1 in
-      record { slots = omega arith; trials = omega arith }
+      record { dims = few_dims; slots = omega arith; trials = omega arith }
 
 pub few-of : (s : State) → s.n_dims ≤ 16 → count_test s ≡ true → Few s
 few-of s h e = let r = split-counts s e in counts-few s r.0 h s.discovered r.1
 
+pub few-candidates : (s : State) → Few s → candidate_count s ≤ 224
+few-candidates s f = go s.discovered
+  where
+    go : (b : Bool) → cond b (max s.n s.n_trials) 0 ≤ 224
+    go true = omega (arith, f.slots, f.trials)
+    go false = omega arith
+
+pub few-parents : (s : State) → Few s → parent_count s ≤ 160
+few-parents s f = go (eqb s.closed 0)
+  where
+    go : (b : Bool) → cond b 0 s.n ≤ 160
+    go true = omega arith
+    go false = f.slots
+
 -- ---- how much is in use
 
-module _ (s : State) (m : Measured s) where
+module _ (s : State) (m : Arrays s) where
   dims-many : s.n_dims ≤ 16 → length (dims_of s) ≡ s.n_dims
   dims-many h = length-take-le s.n_dims s.dims (omega (arith, m.dims))
 
   trials-many : s.n_trials ≤ 224 → length (map trial_of (take s.n_trials s.trials)) ≡ s.n_trials
   trials-many h = length-map (take s.n_trials s.trials) trial_of ∙ length-take-le s.n_trials s.trials (omega (arith, m.trials))
 
-  pub few-candidates : Few s → candidate_count s ≤ 224
-  few-candidates f = go s.discovered
-    where
-      go : (b : Bool) → cond b (max s.n s.n_trials) 0 ≤ 224
-      go true = omega (arith, f.slots, f.trials)
-      go false = omega arith
-
-  pub few-parents : Few s → parent_count s ≤ 160
-  few-parents f = go (eqb s.closed 0)
-    where
-      go : (b : Bool) → cond b 0 s.n ≤ 160
-      go true = omega arith
-      go false = f.slots
-
   candidates-many : Few s → length (take (candidate_count s) s.candidates) ≡ candidate_count s
-  candidates-many f = length-take-le (candidate_count s) s.candidates (omega (arith, few-candidates f, m.candidates))
+  candidates-many f = length-take-le (candidate_count s) s.candidates (omega (arith, few-candidates s f, m.candidates))
 
   parents-many : Few s → length (parents_of s) ≡ parent_count s
-  parents-many f = length-map (take (parent_count s) s.parents) parent_of ∙ length-take-le (parent_count s) s.parents (omega (arith, few-parents f, m.parents))
+  parents-many f = length-map (take (parent_count s) s.parents) parent_of ∙ length-take-le (parent_count s) s.parents (omega (arith, few-parents s f, m.parents))
 
   -- none before a closing, N after it
   parents-counted : Few s → cond (eqb s.closed 0) (is_empty (parents_of s)) (eqb (length (parents_of s)) s.n) ≡ true
@@ -119,7 +115,7 @@ module _ (s : State) (m : Measured s) where
   -- ---- from the parts to the test
 
   module _ (p : Parts s) where
-    ok : is_valid (setup_verdict s.setup) ≡ true
+    ok : is_ok (setup_verdict s.setup) ≡ true
     ok = (split-counts s p.counts).0
 
     few : Few s
@@ -131,7 +127,7 @@ module _ (s : State) (m : Measured s) where
     trials-len : length (map trial_of (take s.n_trials s.trials)) ≡ s.n_trials
     trials-len = trials-many few.trials
 
-    running : s.discovered ≡ true → phase_counts s true ≡ true → phase_test de s.setup (some s.n) (view s) ≡ true
+    running : s.discovered ≡ true → phase_counts s true ≡ true → phase_test de s.setup (Some s.n) (view s) ≡ true
     unfolding view running_counts
     running q e =
         let r = five (leb 1 s.n_dims) (named s) (eqb s.n (size_for s)) (leb s.n_trials (size_for s + 64)) (leb s.idle s.closed) e in
@@ -154,7 +150,7 @@ module _ (s : State) (m : Measured s) where
         (and-true (le-leb s.closed Plain.cap m.closed)
         refl)))))))))))))
 
-    discovering : s.discovered ≡ false → phase_counts s false ≡ true → phase_test de s.setup none (view s) ≡ true
+    discovering : s.discovered ≡ false → phase_counts s false ≡ true → phase_test de s.setup None (view s) ≡ true
     unfolding view discovering_counts best_of
     discovering q e =
         let r = five (eqb s.n 0) (eqb s.n_trials 0) (eqb s.closed 0) (eqb s.idle 0) (beq (named s) (leb 1 s.n_dims)) e in
@@ -219,7 +215,7 @@ module _ (s : State) (m : Measured s) where
         no_slots = k 6 _ refl;
       }
 
-  module _ (k : Clean) (valid : is_valid (setup_verdict s.setup) ≡ true) (dims_pass : all passes (dims_of s) ≡ true) where
+  module _ (k : Clean) (valid : is_ok (setup_verdict s.setup) ≡ true) (dims_pass : all passes (dims_of s) ≡ true) where
     dims-len' : length (dims_of s) ≡ s.n_dims
     dims-len' = dims-many k.few_dims
 
@@ -279,7 +275,7 @@ module _ (s : State) (m : Measured s) where
   unfolding sound_state sound_test view
   of-sound e =
       let a = true-and (clean_test s) _ e in
-      let b = true-and (is_valid (setup_verdict s.setup)) _ a.1 in
+      let b = true-and (is_ok (setup_verdict s.setup)) _ a.1 in
       let t = every-at (sound_tests de s.setup (view s)) b.1 in
       of-phase (clean_of a.0) b.0 (t 0 _ refl) s.discovered refl (t 2 _ refl)
 

@@ -3,3 +3,4 @@ pub mod View
 pub mod Setup
 pub mod Places
 pub mod Sound
+pub mod Measured

@@ -1,23 +1,25 @@
 -- The parts of the soundness test, as the code tests them: each array place by place, and the counts.
-use Rattle.std.specs.Prelude.{ℕ, ◌+◌, Bool, true, false, ◌&&◌, cond, List, [], ◌∷◌, map, leb, ltb, eqb, take, drop}
+use Rattle.std.specs.Prelude.{◌≡◌, ℕ, ◌+◌, Bool, true, false, ◌&&◌, cond, List, [], ◌∷◌, map, leb, ltb, eqb, take, drop, is_some, is_none, is_ok}
 use Rattle.std.specs.Bool.{beq}
+use Rattle.std.specs.Fn.{Shared, FnReturnsAt}
+use denote.Ref.{Bor}
 use Rattle.rng_util.specs.Many.{pad_to}
 use Rattle.distribution.specs.Validate.{judged}
 use Rattle.distribution.specs.declared.DimensionInfo.{DimensionInfo}
 use Rattle.candidates.specs.Space.{continuous_count}
 use Rattle.evolution.specs.declared.Member.{Member}
-use Rattle.evolution.specs.declared.Setup.{Setup}
 use Rattle.selection.specs.Size.{size_of}
-use Rattle.ledger.specs.Words.{is_some, is_none, all}
+use Rattle.ledger.specs.Words.{all}
 use Rattle.ledger.specs.Soundness.{is_number}
 use Rattle.kernel.specs.Fits.{choice_limit, fits}
-use Rattle.state.specs.Setup.{setup_verdict, is_valid}
-use Rattle.state.specs.View.{first_in}
-use Rattle.state.specs.declared.FirstTrial.{FirstTrial}
+use Rattle.state.specs.Setup.{setup_verdict}
 use Rattle.state.specs.declared.State.{State}
 use Rattle.state.specs.declared.TrialProgress.{TrialProgress}
 use Rattle.state.specs.declared.places.Limits.{Limits}
-use Rattle.state.specs.declared.sound.Counts.{Counts}
+
+-- the code's test f answers what p says
+abbrev pub Answers : {F A : Type 0} → Shared F (Bor A × Unit {0}) Bool → F → (A → Bool) → Type 0
+Answers {A = A} g f p = (x : A) (r : Bool) → FnReturnsAt g f x r → r ≡ p x
 
 -- the first n places are right, and the others are blank
 unfoldable pub places_fit : {A : Type 0} → (A → Bool) → (A → Bool) → ℕ → List A → Bool
@@ -65,20 +67,16 @@ choices_below (c ∷ cs) (l ∷ ls) = ltb c l && choices_below cs ls
 -- ---- the counts: "counts keep the bounds below"
 
 -- "before discovery ends there are no candidates, trials or parents, and a first trial's number exactly when D is at least 1"
-unfoldable pub discovering_counts : Bool → Counts → Bool
-discovering_counts named c =
-    eqb c.n 0 && eqb c.n_trials 0 && eqb c.closed 0 && eqb c.idle 0 && beq named (leb 1 c.n_dims)
+unfoldable pub discovering_counts : State → Bool
+discovering_counts s =
+    eqb s.n 0 && eqb s.n_trials 0 && eqb s.closed 0 && eqb s.idle 0 && beq (is_some s.first) (leb 1 s.n_dims)
 
 -- "after it D is at least 1, that number is still held, N is as sized below", "64 extra trials a generation", "the idle count is at most that count"
-unfoldable pub running_counts : Bool → ℕ → Counts → Bool
-running_counts named size c =
-    leb 1 c.n_dims && named && eqb c.n size && leb c.n_trials (size + 64) && leb c.idle c.closed
+unfoldable pub running_counts : ℕ → State → Bool
+running_counts size s =
+    leb 1 s.n_dims && is_some s.first && eqb s.n size && leb s.n_trials (size + 64) && leb s.idle s.closed
 
 -- with the set-up; nc continuous dimensions
-unfoldable pub counts_sound : Setup → FirstTrial → Bool → ℕ → Counts → Bool
-counts_sound S first discovered nc c =
-    let named = is_some (first_in first) in
-    is_valid (setup_verdict S) && cond discovered (running_counts named (size_of S.population_size nc) c) (discovering_counts named c)
-
-abbrev pub counts_of : State → Counts
-counts_of s = record { n = s.n; n_dims = s.n_dims; n_trials = s.n_trials; closed = s.closed; idle = s.idle }
+unfoldable pub counts_sound : ℕ → State → Bool
+counts_sound nc s =
+    is_ok (setup_verdict s.setup) && cond s.discovered (running_counts (size_of s.setup.population_size nc) s) (discovering_counts s)

@@ -1,11 +1,11 @@
 -- Refusal 0: when a state of the code is sound. Its view is judged by the ledger's test; what only the code's state has, the set-up and the unused
 -- places of its arrays, is judged here.
-use Rattle.std.specs.Prelude.{Bool, ◌&&◌, ◌||◌, List, [], ◌∷◌, leb, eqb, drop}
+use Rattle.std.specs.Prelude.{◌≤◌, Bool, ◌&&◌, ◌||◌, List, [], ◌∷◌, leb, eqb, drop, is_ok}
 use Rattle.ledger.specs.Words.{all, every}
 use Rattle.ledger.specs.Soundness.{sound_test}
 use Rattle.kernel.specs.De.{de}
 use Rattle.state.specs.Blank.{is_blank_dim, is_blank_trial, is_blank_candidate, is_blank_member}
-use Rattle.state.specs.Setup.{setup_verdict, is_valid}
+use Rattle.state.specs.Setup.{setup_verdict}
 use Rattle.state.specs.View.{view, candidate_count, parent_count}
 use Rattle.state.specs.declared.State.{State}
 
@@ -26,4 +26,10 @@ clean_test s = every (clean_tests s)
 
 -- "It is sound when: the set-up passes 1 to 3 and every dimension 4 to 7; ..": the rest is clause by clause in the ledger's Soundness
 unfoldable pub sound_state : State → Bool
-sound_state s = clean_test s && (is_valid (setup_verdict s.setup) && sound_test de s.setup (view s))
+sound_state s = clean_test s && (is_ok (setup_verdict s.setup) && sound_test de s.setup (view s))
+
+-- what is in use has room in the arrays
+pub record Few (s : State) : Type 0 where
+  pub dims : s.n_dims ≤ 16
+  pub slots : s.n ≤ 160
+  pub trials : s.n_trials ≤ 224

@@ -1,7 +1,7 @@
 -- The code's state as a plain state of demand 2's definition, and a plain state laid out in the code's arrays.
-use Rattle.std.specs.Prelude.{ℕ, max, Bool, true, false, cond, map, eqb, length, take}
-use Rattle.std.proofs.Math.Option.{Option, none, some}
+use Rattle.std.specs.Prelude.{ℕ, max, Bool, true, false, cond, List, map, eqb, length, take, Option, Some, None}
 use Rattle.rng_util.specs.Many.{pad_to}
+use Rattle.distribution.specs.declared.DimensionInfo.{DimensionInfo}
 use Rattle.candidates.specs.Candidate.{blank_candidate}
 use Rattle.candidates.specs.declared.Candidate.{Candidate}
 use Rattle.evolution.specs.declared.Member.{Member}
@@ -11,8 +11,6 @@ use Rattle.ledger.specs.Kernel.{Parent}
 use Rattle.ledger.specs.State as Plain
 use Rattle.kernel.specs.De.{de, member_of}
 use Rattle.state.specs.Blank.{blank_dim, blank_trial}
-use Rattle.state.specs.declared.FirstTrial.{FirstTrial}
-use Rattle.state.specs.declared.FirstTrial.TheVariants.{Unnamed, Named}
 use Rattle.state.specs.declared.State.{State}
 use Rattle.state.specs.declared.TrialProgress.{TrialProgress}
 
@@ -27,26 +25,18 @@ progress_of t = record { number = t.number; next_dim = t.next }
 abbrev pub parent_of : Member → Parent Candidate
 parent_of m = record { candidate = m.candidate; value = m.value }
 
-abbrev pub first_in : FirstTrial → Option ℕ
-first_in Unnamed = none
-first_in (Named n) = some n
-
-abbrev pub first_of : Option ℕ → FirstTrial
-first_of none = Unnamed
-first_of (some n) = Named n
-
 -- N, once discovery has ended
 abbrev pub size_in : Bool → ℕ → Option ℕ
-size_in true n = some n
-size_in false n = none
+size_in true n = Some n
+size_in false n = None
 
 abbrev pub has_size : Option ℕ → Bool
-has_size none = false
-has_size (some n) = true
+has_size None = false
+has_size (Some n) = true
 
 abbrev pub size_number : Option ℕ → ℕ
-size_number none = 0
-size_number (some n) = n
+size_number None = 0
+size_number (Some n) = n
 
 -- ---- the whole
 
@@ -58,11 +48,24 @@ candidate_count s = cond s.discovered (max s.n s.n_trials) 0
 abbrev pub parent_count : State → ℕ
 parent_count s = cond (eqb s.closed 0) 0 s.n
 
+-- what is in use of the arrays
+abbrev pub dims_of : State → List DimensionInfo
+dims_of s = take s.n_dims s.dims
+
+abbrev pub candidates_of : State → List Candidate
+candidates_of s = take (candidate_count s) s.candidates
+
+abbrev pub trials_of : State → List TrialProgress
+trials_of s = take s.n_trials s.trials
+
+abbrev pub members_of : State → List Member
+members_of s = take (parent_count s) s.parents
+
 unfoldable pub view : State → Plain.State de
 view s =
     record {
       word = s.word;
-      first = first_in s.first;
+      first = s.first;
       dims = take s.n_dims s.dims;
       size = size_in s.discovered s.n;
       candidates = take (candidate_count s) s.candidates;
@@ -75,7 +78,7 @@ unfoldable pub laid : Setup → Plain.State de → State
 laid S m =
     record {
       setup = S;
-      first = first_of m.first;
+      first = m.first;
       discovered = has_size m.size;
       n = size_number m.size;
       n_dims = length m.dims;

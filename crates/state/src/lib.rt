@@ -9,6 +9,7 @@ pub mod lists;
 pub mod places;
 pub mod setup;
 pub mod sound;
+pub mod view;
 
 // An open trial: its number, and the dimension that its next call gives. The i-th one has candidate i.
 #[repr(C)]
@@ -18,19 +19,12 @@ pub struct TrialProgress {
     pub next_dim: usize,
 }
 
-// `Option<u64>` of the Rust's `discovery_trial_id`.
-#[derive(Clone, Copy)]
-pub enum FirstTrial {
-    Unnamed,
-    Named(u64),
-}
-
 // In use are n_dims dimensions, n_trials trials, after discovery n candidates and one for each trial past n, and n
 // parents once a generation has closed. Unused places are as in a fresh state.
 #[derive(Clone, Copy)]
 pub struct State {
     pub setup: Setup,
-    pub first: FirstTrial,
+    pub first: Option<u64>,
     pub discovered: bool,
     pub n: usize,
     pub n_dims: usize,

@@ -1,17 +1,15 @@
 // Place tests: what is in use is right, and what is not is as in a fresh state.
-ghost use Rattle.std.specs.Prelude.{◌≡◌, ◌&&◌, cond, List, map, ◌≤◌, eqb, length, take, drop};
+ghost use Rattle.std.specs.Prelude.{Bool, List, ◌≡◌, ◌&&◌, map, ◌≤◌, eqb, length};
 ghost use Rattle.rng_util.specs.Many.{pad_to};
 ghost use Rattle.distribution.specs.Validate.{is_finite};
 ghost use Rattle.distribution.specs.Dims.{choices_of};
 ghost use Rattle.candidates.specs.Space.{FewChoices};
-ghost use Rattle.ledger.specs.Soundness.{is_number};
 ghost use Rattle.ledger.specs.Words.{all};
 ghost use Rattle.kernel.specs.Fits.{is_zero, choice_limit, fits};
-ghost use Rattle.state.specs.Blank.{is_blank_distribution, is_blank_dim, is_blank_trial, is_blank_candidate, is_blank_member};
-ghost use Rattle.state.specs.Places.{places_fit, passes, next_fits, member_fits, limits_of, choices_below};
+ghost use Rattle.state.specs.Blank.{is_blank_dim, is_blank_trial, is_blank_candidate, is_blank_member};
+ghost use Rattle.state.specs.Places.{Answers, places_fit, passes, limits_of, choices_below, next_fits, member_fits};
 
 use super::TrialProgress;
-use crate::setup::is_valid;
 use candidates::{Candidate, continuous_place};
 use distribution::validate::{is_finite, validate};
 use distribution::{DimIdx, DimensionInfo, Distribution, choices_of, is_continuous};
@@ -25,257 +23,138 @@ pub struct Limits {
     pub choices: [u16; 16],
 }
 
+// Whether each item passes. There is no early way out: without a branch many items are tested at once.
+fn all_pass<T, F: Fn(&T) -> bool>(items: &[T], passes: F) -> bool
+    requires { F.IsAlwaysCallable passes }
+    ensures { (p : T → Bool) → Answers F.Fn passes p → result ≡ all p items.now }
+{
+    let mut fit = true;
+    for item in items {
+        fit &= passes(item);
+    }
+    fit
+}
+
+// The first `count` items are in use, and right; the others are blank.
+pub fn places_fit<T, R: Fn(&T) -> bool, B: Fn(&T) -> bool>(
+    items: &[T],
+    count: usize,
+    right: R,
+    blank: B,
+) -> bool
+    requires right_callable { R.IsAlwaysCallable right }
+    requires blank_callable { B.IsAlwaysCallable blank }
+    ensures { (p q : T → Bool) → Answers R.Fn right p → Answers B.Fn blank q → result ≡ places_fit p q count items.now }
+{
+    let count = count.min(items.len());
+    all_pass(&items[..count], right) & all_pass(&items[count..], blank)
+}
+
 // Plus zero, as an unused entry is: -0.0 equals it, and is another double.
 fn is_zero(v: f64) -> bool
     ensures { result ≡ is_zero v }
 {
-    if v != v {
-        return false;
-    }
-    f64::to_bits(v) == 0
-}
-
-// These sweeps have no early way out: without a branch many places are tested at once.
-fn all_finite(x: [f64; 16]) -> bool
-    ensures { result ≡ all is_finite x }
-{
-    let mut fit = true;
-    let mut j: usize = 0;
-    while j < 16 {
-        fit = fit & is_finite(x[j]);
-        j += 1;
-    }
-    fit
-}
-
-fn all_zero(x: [f64; 16]) -> bool
-    ensures { result ≡ all is_zero x }
-{
-    let mut fit = true;
-    let mut j: usize = 0;
-    while j < 16 {
-        fit = fit & is_zero(x[j]);
-        j += 1;
-    }
-    fit
-}
-
-fn no_choices(choices: [u16; 16]) -> bool
-    ensures { result ≡ all (eqb 0) choices }
-{
-    let mut fit = true;
-    let mut k: usize = 0;
-    while k < 16 {
-        fit = fit & (0 == choices[k]);
-        k += 1;
-    }
-    fit
-}
-
-fn choices_fit(choices: [u16; 16], limits: [u16; 16]) -> bool
-    ensures { result ≡ choices_below choices limits }
-{
-    let mut fit = true;
-    let mut k: usize = 0;
-    while k < 16 {
-        fit = fit & (choices[k] < limits[k]);
-        k += 1;
-    }
-    fit
-}
-
-// Unused entries from place n on: in one sweep where no dimension is continuous.
-fn zeros_from(x: [f64; 16], n: usize) -> bool
-    ensures { result ≡ all is_zero (drop n x) }
-{
-    if n == 0 {
-        return all_zero(x);
-    }
-    let mut j = n;
-    while j < 16 {
-        if is_zero(x[j]) {
-            j += 1;
-        } else {
-            return false;
-        }
-    }
-    true
+    !v.is_nan() && f64::to_bits(v) == 0
 }
 
 // n finite entries, and unused ones after them, which are finite too.
-fn entries_fit(x: [f64; 16], n: usize) -> bool
-    ensures { result ≡ places_fit is_finite is_zero n x }
+fn entries_fit(x: &[f64], n: usize) -> bool
+    ensures { result ≡ places_fit is_finite is_zero n x.now }
 {
-    all_finite(x) & zeros_from(x, n)
+    all_pass(x, |v| is_finite(*v)) & all_pass(&x[n.min(x.len())..], |v| is_zero(*v))
+}
+
+fn choices_fit(choices: &[u16; 16], limits: &[u16; 16]) -> bool
+    ensures { result ≡ choices_below choices.now limits.now }
+{
+    let mut fit = true;
+    for k in 0..16 {
+        fit &= choices[k] < limits[k];
+    }
+    fit
 }
 
 // A candidate of the dimensions that the limits are of.
-fn candidate_fits(c: Candidate, limits: Limits) -> bool
-    ensures { (ds : List DimensionInfo) → length ds ≤ 16 → limits ≡ limits_of ds → result ≡ fits ds c }
+pub fn candidate_fits(c: &Candidate, limits: &Limits) -> bool
+    ensures { (ds : List DimensionInfo) → length ds ≤ 16 → limits.now ≡ limits_of ds → result ≡ fits ds c.now }
 {
-    let x = c.x;
-    let choices = c.choices;
-    let below = limits.choices;
-    entries_fit(x, limits.n) & choices_fit(choices, below)
+    entries_fit(&c.x, limits.n) & choices_fit(&c.choices, &limits.choices)
 }
 
-fn is_blank_candidate(c: Candidate) -> bool
-    ensures { result ≡ is_blank_candidate c }
+pub fn is_blank_candidate(c: &Candidate) -> bool
+    ensures { result ≡ is_blank_candidate c.now }
 {
-    let x = c.x;
-    let choices = c.choices;
-    all_zero(x) & no_choices(choices)
+    all_pass(&c.x, |v| is_zero(*v)) & all_pass(&c.choices, |choice| *choice == 0)
 }
 
-fn candidate_place(c: Candidate, used: bool, limits: Limits) -> bool
-    ensures { (ds : List DimensionInfo) → length ds ≤ 16 → limits ≡ limits_of ds → result ≡ cond used (fits ds c) (is_blank_candidate c) }
+// A parent of the dimensions that the limits are of.
+pub fn member_fits(m: &Member, limits: &Limits) -> bool
+    ensures { (ds : List DimensionInfo) → length ds ≤ 16 → limits.now ≡ limits_of ds → result ≡ member_fits ds m.now }
 {
-    if used {
-        return candidate_fits(c, limits);
-    }
-    is_blank_candidate(c)
+    candidate_fits(&m.candidate, limits) & !m.value.is_nan()
 }
 
-fn value_place(v: f64, used: bool) -> bool
-    ensures { result ≡ cond used (is_number v) (is_zero v) }
+pub fn is_blank_member(m: &Member) -> bool
+    ensures { result ≡ is_blank_member m.now }
 {
-    if used { v == v } else { is_zero(v) }
+    is_blank_candidate(&m.candidate) & is_zero(m.value)
 }
 
-fn member_place(m: Member, used: bool, limits: Limits) -> bool
-    ensures { (ds : List DimensionInfo) → length ds ≤ 16 → limits ≡ limits_of ds → result ≡ cond used (member_fits ds m) (is_blank_member m) }
+pub fn passes(d: &DimensionInfo) -> bool
+    ensures { result ≡ passes d.now }
 {
-    let c = m.candidate;
-    candidate_place(c, used, limits) & value_place(m.value, used)
+    validate(d.distribution).is_ok()
 }
 
-// `count` candidates in use.
-pub fn candidates_fit(candidates: [Candidate; 224], count: usize, limits: Limits) -> bool
-    ensures { (ds : List DimensionInfo) → length ds ≤ 16 → limits ≡ limits_of ds → result ≡ places_fit (fits ds) is_blank_candidate count candidates }
+pub fn is_blank_dim(d: &DimensionInfo) -> bool
+    ensures { result ≡ is_blank_dim d.now }
 {
-    let mut i: usize = 0;
-    while i < 224 {
-        let c = candidates[i];
-        if candidate_place(c, i < count, limits) {
-            i += 1;
-        } else {
-            return false;
-        }
-    }
-    true
-}
-
-// `count` parents in use.
-pub fn parents_fit(parents: [Member; 160], count: usize, limits: Limits) -> bool
-    ensures { (ds : List DimensionInfo) → length ds ≤ 16 → limits ≡ limits_of ds → result ≡ places_fit (member_fits ds) is_blank_member count parents }
-{
-    let mut i: usize = 0;
-    while i < 160 {
-        let m = parents[i];
-        if member_place(m, i < count, limits) {
-            i += 1;
-        } else {
-            return false;
-        }
-    }
-    true
-}
-
-fn is_blank_dim(d: DimensionInfo) -> bool
-    ensures { result ≡ is_blank_dim d }
-{
-    let k = d.distribution;
-    match k {
-        Distribution::Float(_) => false,
-        Distribution::Int(_) => false,
+    match d.distribution {
         Distribution::Categorical(c) => c.n_choices == 0,
+        Distribution::Float(_) | Distribution::Int(_) => false,
     }
 }
 
-fn dim_place(d: DimensionInfo, used: bool) -> bool
-    ensures { result ≡ cond used (passes d) (is_blank_dim d) }
+pub fn next_fits(t: &TrialProgress, n_dims: usize) -> bool
+    ensures { result ≡ next_fits n_dims t.now }
 {
-    if used {
-        let k = d.distribution;
-        return is_valid(validate(k));
-    }
-    is_blank_dim(d)
+    t.next_dim <= n_dims
 }
 
-// n dimensions in use.
-pub fn dims_fit(dims: [DimensionInfo; 16], n: usize) -> bool
-    ensures { result ≡ places_fit passes is_blank_dim n dims }
+pub fn is_blank_trial(t: &TrialProgress) -> bool
+    ensures { result ≡ is_blank_trial t.now }
 {
-    let mut i: usize = 0;
-    while i < 16 {
-        let d = dims[i];
-        if dim_place(d, i < n) {
-            i += 1;
-        } else {
-            return false;
-        }
-    }
-    true
-}
-
-fn trial_place(t: TrialProgress, used: bool, n_dims: usize) -> bool
-    ensures { result ≡ cond used (next_fits n_dims t) (is_blank_trial t) }
-{
-    if used {
-        return t.next_dim <= n_dims;
-    }
     (t.number == 0) & (t.next_dim == 0)
 }
 
-// n trials in use.
-pub fn trials_fit(trials: [TrialProgress; 224], n: usize, n_dims: usize) -> bool
-    ensures { result ≡ places_fit (next_fits n_dims) is_blank_trial n trials }
-{
-    let mut i: usize = 0;
-    while i < 224 {
-        let t = trials[i];
-        if trial_place(t, i < n, n_dims) {
-            i += 1;
-        } else {
-            return false;
-        }
-    }
-    true
-}
-
 // What a dimension's choice stays below: 1 where it is continuous, since 0 stands there.
-fn choice_limit(d: DimensionInfo) -> u16
-    requires { choices_of d ≤ 65535 }
-    ensures { result ≡ choice_limit d }
+fn choice_limit(d: &DimensionInfo) -> u16
+    requires { choices_of d.now ≤ 65535 }
+    ensures { result ≡ choice_limit d.now }
 {
-    let k = d.distribution;
-    if is_continuous(k) {
+    if is_continuous(d.distribution) {
         return 1;
     }
-    let count = choices_of(k);
-    count as u16
+    choices_of(d.distribution) as u16
 }
 
-fn choice_limits(dims: [DimensionInfo; 16], n_dims: usize) -> [u16; 16]
-    requires { (n_dims ≤ 16) × FewChoices (take n_dims dims) }
-    ensures { result ≡ pad_to 16 1 (map choice_limit (take n_dims dims)) }
+fn choice_limits(dims: &[DimensionInfo]) -> [u16; 16]
+    requires { (length dims.now ≤ 16) × FewChoices dims.now }
+    ensures { result ≡ pad_to 16 1 (map choice_limit dims.now) }
 {
     let mut limits = [1u16; 16];
-    let mut k: usize = 0;
-    while k < n_dims {
-        let d = dims[k];
+    for (k, d) in dims.iter().enumerate() {
         limits[k] = choice_limit(d);
-        k += 1;
     }
     limits
 }
 
-// The limits of n_dims dimensions that pass 7.
-pub fn limits_of(dims: [DimensionInfo; 16], n_dims: usize) -> Limits
-    requires { (n_dims ≤ 16) × FewChoices (take n_dims dims) }
-    ensures { result ≡ limits_of (take n_dims dims) }
+// The limits of dimensions that pass 7.
+pub fn limits_of(dims: &[DimensionInfo]) -> Limits
+    requires { (length dims.now ≤ 16) × FewChoices dims.now }
+    ensures { result ≡ limits_of dims.now }
 {
-    let ci = continuous_place(dims, n_dims, DimIdx(n_dims));
-    let choices = choice_limits(dims, n_dims);
+    let ci = continuous_place(dims, DimIdx(dims.len()));
+    let choices = choice_limits(dims);
     Limits { n: ci.0, choices }
 }

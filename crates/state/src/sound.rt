@@ -1,138 +1,110 @@
 // Refusal 0: whether a state is sound.
-ghost use Rattle.std.specs.Prelude.{◌≡◌, cond, ◌≤◌, max, eqb};
-ghost use Rattle.ledger.specs.Words.{is_some};
-ghost use Rattle.state.specs.View.{first_in};
+ghost use Rattle.std.specs.Prelude.{is_some, ◌≡◌, cond, ◌≤◌, max, eqb};
+ghost use Rattle.std.specs.Bool.{OnTrue};
 ghost use Rattle.state.specs.Places.{discovering_counts, running_counts, counts_sound};
-ghost use Rattle.state.specs.Sound.{sound_state};
+ghost use Rattle.state.specs.Sound.{sound_state, Few};
 
-use super::{FirstTrial, State};
+use super::State;
 use crate::lists::numbers_differ;
-use crate::places::{candidates_fit, dims_fit, limits_of, parents_fit, trials_fit};
-use crate::setup::{is_valid, validate_setup};
-use evolution::Setup;
+use crate::places::{
+    candidate_fits, is_blank_candidate, is_blank_dim, is_blank_member, is_blank_trial, limits_of,
+    member_fits, next_fits, passes, places_fit,
+};
+use crate::setup::validate_setup;
 use selection::{best_slot, population_size};
 
-// The counts of a state.
-#[derive(Clone, Copy)]
-pub struct Counts {
-    pub n: usize,
-    pub n_dims: usize,
-    pub n_trials: usize,
-    pub closed: u32,
-    pub idle: u32,
-}
-
-fn is_named(first: FirstTrial) -> bool
-    ensures { result ≡ is_some (first_in first) }
-{
-    match first {
-        FirstTrial::Unnamed => false,
-        FirstTrial::Named(_) => true,
-    }
-}
-
-// Before discovery ends.
-fn discovering_counts(named: bool, c: Counts) -> bool
-    ensures { result ≡ discovering_counts named c }
-{
-    let some_dim = 1 <= c.n_dims;
-    (c.n == 0) & (c.n_trials == 0) & (c.closed == 0) & (c.idle == 0) & (named == some_dim)
-}
-
-// After it.
-fn running_counts(named: bool, size: usize, c: Counts) -> bool
-    requires { size ≤ 160 }
-    ensures { result ≡ running_counts named size c }
-{
-    let few = c.n_trials <= size + 64;
-    (1 <= c.n_dims) & named & (c.n == size) & few & (c.idle <= c.closed)
-}
+// The most dimensions.
+const DIM_LIMIT: usize = 16;
 
 // After discovery N candidates, and one for each trial past N.
 pub fn candidate_count(discovered: bool, n: usize, n_trials: usize) -> usize
     ensures { result ≡ cond discovered (max n n_trials) 0 }
 {
-    if discovered {
-        if n < n_trials {
-            return n_trials;
-        }
-        return n;
-    }
-    0
+    if discovered { n.max(n_trials) } else { 0 }
 }
 
 // N parents once a generation has closed.
 pub fn parent_count(closed: u32, n: usize) -> usize
     ensures { result ≡ cond (eqb closed 0) 0 n }
 {
-    if closed == 0 {
-        return 0;
-    }
-    n
+    if closed == 0 { 0 } else { n }
 }
 
-// The set-up and the counts; `n_continuous` of the dimensions are continuous.
-fn counts_sound(
-    setup: Setup,
-    first: FirstTrial,
-    discovered: bool,
-    n_continuous: usize,
-    counts: Counts,
-) -> bool
-    requires { n_continuous ≤ 16 }
-    ensures { result ≡ counts_sound setup first discovered n_continuous counts }
-{
-    if !is_valid(validate_setup(setup)) {
-        return false;
+impl State {
+    // Before discovery ends.
+    #[tactic(auto, unfolding(crate::specs::Places::discovering_counts))]
+    fn discovering_counts(&self) -> bool
+        ensures { result ≡ discovering_counts self.now }
+    {
+        (self.n == 0)
+            & (self.n_trials == 0)
+            & (self.closed == 0)
+            & (self.idle == 0)
+            & (self.first.is_some() == (1 <= self.n_dims))
     }
-    let named = is_named(first);
-    if discovered {
-        let user = setup.population_size;
-        let size = population_size(user, n_continuous);
-        return running_counts(named, size, counts);
-    }
-    discovering_counts(named, counts)
-}
 
-// Refusal 0 is for the states that are not.
-pub fn is_sound(state: State) -> bool
-    ensures { result ≡ sound_state state }
-{
-    let n_dims = state.n_dims;
-    let dims = state.dims;
-    if n_dims > 16 {
-        return false;
+    // After it.
+    #[tactic(auto, unfolding(crate::specs::Places::running_counts))]
+    fn running_counts(&self, size: usize) -> bool
+        requires { size ≤ 160 }
+        ensures { result ≡ running_counts size self.now }
+    {
+        (1 <= self.n_dims)
+            & self.first.is_some()
+            & (self.n == size)
+            & (self.n_trials <= size + 64)
+            & (self.idle <= self.closed)
     }
-    if !dims_fit(dims, n_dims) {
-        return false;
+
+    // The set-up and the counts; `n_continuous` of the dimensions are continuous.
+    #[tactic(auto, unfolding(crate::specs::Places::counts_sound))]
+    fn counts_sound(&self, n_continuous: usize) -> bool
+        requires { n_continuous ≤ 16 }
+        ensures { result ≡ counts_sound n_continuous self.now }
+    {
+        if validate_setup(self.setup).is_err() {
+            return false;
+        }
+        if self.discovered {
+            self.running_counts(population_size(self.setup.population_size, n_continuous))
+        } else {
+            self.discovering_counts()
+        }
     }
-    let limits = limits_of(dims, n_dims);
-    let setup = state.setup;
-    let first = state.first;
-    let n = state.n;
-    let n_trials = state.n_trials;
-    let counts = Counts {
-        n,
-        n_dims,
-        n_trials,
-        closed: state.closed,
-        idle: state.idle,
-    };
-    if !counts_sound(setup, first, state.discovered, limits.n, counts) {
-        return false;
+
+    // Refusal 0 is for the states that are not. What a sound state has in use has room in its arrays.
+    pub fn is_sound(&self) -> bool
+        ensures sound { result ≡ sound_state self.now }
+        ensures few { OnTrue result (Few self.now) }
+    {
+        // Read here and not by the method, so that the range of `closed` is known.
+        let n_parents = parent_count(self.closed, self.n);
+        if self.n_dims > DIM_LIMIT || !places_fit(&self.dims, self.n_dims, passes, is_blank_dim) {
+            return false;
+        }
+        let limits = limits_of(self.dims());
+        if !self.counts_sound(limits.n) {
+            return false;
+        }
+        let candidates = places_fit(
+            &self.candidates,
+            self.candidate_count(),
+            |c| candidate_fits(c, &limits),
+            is_blank_candidate,
+        );
+        let trials = places_fit(
+            &self.trials,
+            self.n_trials,
+            |t| next_fits(t, self.n_dims),
+            is_blank_trial,
+        );
+        let parents = places_fit(
+            &self.parents,
+            n_parents,
+            |m| member_fits(m, &limits),
+            is_blank_member,
+        );
+        let differ = numbers_differ(self.trials());
+        candidates & trials & parents & differ & (self.best == best_slot(self.parents()))
     }
-    let n_candidates = candidate_count(state.discovered, n, n_trials);
-    let n_parents = parent_count(state.closed, n);
-    let candidates = state.candidates;
-    let trials = state.trials;
-    let parents = state.parents;
-    // All four without a branch between them: a call after several ways out counts as rare, and copies what it is handed.
-    let fit = candidates_fit(candidates, n_candidates, limits)
-        & trials_fit(trials, n_trials, n_dims)
-        & numbers_differ(trials, n_trials)
-        & parents_fit(parents, n_parents, limits);
-    if !fit {
-        return false;
-    }
-    state.best == best_slot(parents, n_parents)
 }
