@@ -1,14 +1,14 @@
 -- The open trials and the dimensions in their arrays: what the code reads and writes there is what the ledger's lists say.
+use Rattle.std.specs.Prelude.{Some, slice_get}
 use Prim.Native.Nat.{ℕ, zero, suc, ◌+◌, ◌-◌, ◌≤◌, min}
 use mathlib.Core.Path.{◌≡◌, refl, sym, ap, ◌∙◌}
 use mathlib.Core.Bool.{Bool, true, false, cond}
 use mathlib.Core.List.{List, [], ◌∷◌, ◌++◌, map}
-use mathlib.Core.Option.{some}
 use native.Mathlib.Numerals.{add-one}
 use native.Mathlib.Omega.{arith}
 use borrow.Author.Tests.{eqb-true}
 use lib.Dec.{eqb}
-use lib.ListN.{length, get_or, get_elem?, set, replicate, length-map}
+use lib.ListN.{length, get_or, set, replicate, length-map}
 use Rattle.ledger.specs.State.{Trial, numbers}
 use Rattle.ledger.specs.Assignment.{place_in, next_in, move}
 use Rattle.ledger.proofs.Trials.{place-le}
@@ -17,7 +17,7 @@ use Rattle.state.specs.View.{progress_of}
 use Rattle.state.specs.declared.TrialProgress.{TrialProgress}
 use Rattle.assignment.specs.Raw.{open_numbers}
 
-pub at-get_or : {A : Type 0} (xs : List A) (i : ℕ) (a z : A) → get_elem? xs i ≡ some a → get_or xs i z ≡ a
+pub at-get_or : {A : Type 0} (xs : List A) (i : ℕ) (a z : A) → slice_get xs i ≡ Some a → get_or xs i z ≡ a
 at-get_or [] i a z e = let q : ◌≡◌ {A = ℕ} 0 1 = cc in absurd (omega arith)
 at-get_or (x ∷ xs) zero a z e = cc
 at-get_or (x ∷ xs) (suc i) a z e = at-get_or xs i a z e

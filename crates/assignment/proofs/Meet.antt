@@ -1,10 +1,10 @@
 -- What this crate's functions require holds on a sound state that is laid out.
+use Rattle.std.specs.Prelude.{Option, Some, None, Result, Ok, Err, ⊤}
 use Prim.Native.Nat.{ℕ, zero, suc, ◌+◌, ◌≤◌, ◌<◌, ◌^◌, max}
 use mathlib.Core.Path.{◌≡◌, refl, sym, ap, ◌∙◌}
 use mathlib.Core.Bool.{Bool, true, false, not, ◌&&◌}
 use mathlib.Core.List.Memᴰ
 use mathlib.Core.List.{List, [], ◌∷◌}
-use mathlib.Core.Option.{none, some}
 use native.Mathlib.Nat.{not-suc-le-zero, le_of_suc-le-suc, mul-le-mul}
 use native.Mathlib.Omega.{arith}
 use borrow.Author.Tests.{ltb-false, leb-false}
@@ -17,8 +17,6 @@ use Rattle.distribution.specs.Validate.{verdict_of, refusal_of, judged}
 use Rattle.distribution.specs.declared.DimensionInfo.{DimensionInfo}
 use Rattle.distribution.specs.declared.Distribution.{Distribution}
 use Rattle.distribution.specs.declared.Distribution.TheVariants.{Float as FloatD, Int as IntD, Categorical}
-use Rattle.distribution.specs.declared.Verdict.{Verdict}
-use Rattle.distribution.specs.declared.Verdict.TheVariants.{Valid, Refused}
 use Rattle.distribution.proofs.Meaning.{judged-good}
 use Rattle.candidates.specs.Nan.{any_bad}
 use Rattle.candidates.specs.Random.{random_candidates}
@@ -26,8 +24,6 @@ use Rattle.candidates.specs.Space.{FewChoices, continuous_count, space_of}
 use Rattle.candidates.specs.declared.Candidate.{Candidate}
 use Rattle.candidates.proofs.Count.{candidates-few}
 use Rattle.candidates.proofs.Passed.{few-continuous}
-use Rattle.evolution.specs.declared.PopulationSize.{PopulationSize}
-use Rattle.evolution.specs.declared.PopulationSize.TheVariants.{Unset, Of}
 use Rattle.evolution.specs.declared.Setup.{Setup}
 use Rattle.selection.specs.Size.{size_of}
 use Rattle.ledger.specs.Words.{All, has}
@@ -45,22 +41,23 @@ use Rattle.state.specs.View.{laid}
 use Rattle.assignment.specs.Raw.{Ready, Complete}
 use Rattle.assignment.proofs.Arrays.{place-numbers}
 use Rattle.assignment.proofs.Refine.{dims-laid, place-laid, Open}
+use Rattle.distribution.specs.declared.Refusal.{Refusal}
 
 -- ---- distributions that pass 4 to 7
 
-pub judged-valid : (d : Distribution) → judged d ≡ none → verdict_of d ≡ Valid
+pub judged-valid : (d : Distribution) → judged d ≡ None → verdict_of d ≡ (Ok tt)
 judged-valid d e = go (verdict_of d) e
   where
-    go : (v : Verdict) → refusal_of v ≡ none → v ≡ Valid
-    go Valid e = refl
-    go (Refused r) e = let z : ◌≡◌ {A = ℕ} 0 1 = cc in absurd (omega arith)
+    go : (v : Result ⊤ Refusal) → refusal_of v ≡ None → v ≡ (Ok tt)
+    go (Ok tt) e = refl
+    go (Err r) e = let z : ◌≡◌ {A = ℕ} 0 1 = cc in absurd (omega arith)
 
 few-of : (d : Distribution) → Good d → choices d ≤ 65535
 few-of (FloatD d) g = omega arith
 few-of (IntD d) g = omega arith
 few-of (Categorical d) g = g.few
 
-pub few_choices : (ds : List DimensionInfo) → All (λ d. de.judged d ≡ none) ds → FewChoices ds
+pub few_choices : (ds : List DimensionInfo) → All (λ d. de.judged d ≡ None) ds → FewChoices ds
 unfolding FewChoices
 few_choices [] a i h = absurd (not-suc-le-zero h)
 few_choices (d ∷ ds) a zero h = few-of d.distribution (judged-good d.distribution (a d (Memᴰ.head refl)))
@@ -69,7 +66,7 @@ few_choices (d ∷ ds) a (suc i) h = few_choices ds (λ x p. a x (Memᴰ.tail p)
 -- ---- the open generation
 
 -- after closing, or after discovery: candidates for the slots, and no trial yet
-pub open-new : (m : Plain.State de) (N n : ℕ) → m.size ≡ some N → m.trials ≡ [] → length m.candidates ≡ N → Open m N n
+pub open-new : (m : Plain.State de) (N n : ℕ) → m.size ≡ Some N → m.trials ≡ [] → length m.candidates ≡ N → Open m N n
 unfolding place_in
 open-new m N n e t k =
     record {
@@ -79,7 +76,7 @@ open-new m N n e t k =
     }
 
 -- before closing: refusal 10 is not for the call
-pub open-running : (S : Setup) (m : Plain.State de) (N n : ℕ) → m.size ≡ some N → Running de S N m → N ≤ 160 → (not (has (numbers m.trials) n) && leb (N + 64) (length m.trials)) ≡ false → Open m N n
+pub open-running : (S : Setup) (m : Plain.State de) (N n : ℕ) → m.size ≡ Some N → Running de S N m → N ≤ 160 → (not (has (numbers m.trials) n) && leb (N + 64) (length m.trials)) ≡ false → Open m N n
 open-running S m N n e v few r =
     record { sized = e; candidates = v.candidates; place = go (has (numbers m.trials) n) refl r }
   where
@@ -89,8 +86,8 @@ open-running S m N n e v few r =
 
 -- ---- a call after discovery
 
-pub ready-laid : (S : Setup) (m : Plain.State de) (c : Call de) (N : ℕ) (g : L.Gen ℕ) → Open m N c.number → length m.dims ≤ 16 → All (λ d. de.judged d ≡ none) m.dims → length m.trials ≤ 224
-    → de.judged c.distribution ≡ none → g.draws < 2 ^ 60 → Ready (laid S m) c.distribution.distribution c.number (code_gen g)
+pub ready-laid : (S : Setup) (m : Plain.State de) (c : Call de) (N : ℕ) (g : L.Gen ℕ) → Open m N c.number → length m.dims ≤ 16 → All (λ d. de.judged d ≡ None) m.dims → length m.trials ≤ 224
+    → de.judged c.distribution ≡ None → g.draws < 2 ^ 60 → Ready (laid S m) c.distribution.distribution c.number (code_gen g)
 unfolding laid
 ready-laid S m c N g o few pass trials valid draws =
     record {
@@ -105,22 +102,22 @@ ready-laid S m c N g o few pass trials valid draws =
 -- ---- the end of discovery
 
 -- what is made and not refused by 11 has drawn what it drew
-pub made-draws : {A : Type 0} (bad : Bool) (x : Made A) (r : L.Made ℕ A) → unless_nan bad x ≡ some r → r.gen.draws ≡ x.after.draws
+pub made-draws : {A : Type 0} (bad : Bool) (x : Made A) (r : L.Made ℕ A) → unless_nan bad x ≡ Some r → r.gen.draws ≡ x.after.draws
 made-draws true x r e = absurd (none≢some e)
 made-draws {A} false x r e = sym (ap (λ (y : L.Made ℕ A). y.gen.draws) (some_inj e))
 
 -- the first candidates: at most one draw for each dimension of each
-pub firsts-draws : (S : Setup) (ds : List DimensionInfo) (N : ℕ) (g : L.Gen ℕ) (r : L.Made ℕ (List Candidate)) → de.firsts S ds N g ≡ some r → N ≤ 160 → length ds ≤ 16 → r.gen.draws ≤ g.draws + 2560
+pub firsts-draws : (S : Setup) (ds : List DimensionInfo) (N : ℕ) (g : L.Gen ℕ) (r : L.Made ℕ (List Candidate)) → de.firsts S ds N g ≡ Some r → N ≤ 160 → length ds ≤ 16 → r.gen.draws ≤ g.draws + 2560
 unfolding firsts_of
 firsts-draws S ds N g r e n k =
     omega (arith, made-draws (any_bad (random_candidates (space_of ds) N (code_gen g)).out) (random_candidates (space_of ds) N (code_gen g)) r e, candidates-few ds N (code_gen g), mul-le-mul n k)
 
 -- refusal 3 is not for the set-up
-pub size_few : (u : PopulationSize) (n : ℕ) → size_fails u ≡ false → n ≤ 16 → size_of u n ≤ 160
-size_few Unset n e h = omega arith
-size_few (Of k) n e h = omega (arith, ltb-false 160 k e)
+pub size_few : (u : Option ℕ) (n : ℕ) → size_fails u ≡ false → n ≤ 16 → size_of u n ≤ 160
+size_few None n e h = omega arith
+size_few (Some k) n e h = omega (arith, ltb-false 160 k e)
 
-pub complete-laid : (S : Setup) (m : Plain.State de) → size_fails S.population_size ≡ false → length m.dims ≤ 16 → All (λ d. de.judged d ≡ none) m.dims → Complete (laid S m)
+pub complete-laid : (S : Setup) (m : Plain.State de) → size_fails S.population_size ≡ false → length m.dims ≤ 16 → All (λ d. de.judged d ≡ None) m.dims → Complete (laid S m)
 unfolding laid
 complete-laid S m fits few pass =
     record {

@@ -1,9 +1,9 @@
 -- Step 1 on a state that is laid out is the ledger's, laid out: a dimension is put after the others, and the first candidates are the kernel's.
+use Rattle.std.specs.Prelude.{None}
 use Prim.Native.Nat.{ℕ, ◌+◌, ◌<◌}
 use mathlib.Core.Path.{◌≡◌, refl, ap, ◌∙◌}
 use mathlib.Core.Bool.{Bool, true, false}
 use mathlib.Core.List.{List, [], ◌∷◌, ◌++◌}
-use mathlib.Core.Option.{none}
 use native.Mathlib.Omega.{arith}
 use lib.ListN.{length, set}
 use Rattle.rng_util.specs.Gen.{Made}
@@ -15,6 +15,7 @@ use Rattle.candidates.specs.Random.{random_candidates}
 use Rattle.candidates.specs.Space.{space_of}
 use Rattle.candidates.specs.declared.Candidate.{Candidate}
 use Rattle.evolution.specs.declared.Setup.{Setup}
+use Rattle.ledger.specs.Kernel as K
 use Rattle.ledger.specs.Call.{Call}
 use Rattle.ledger.specs.State as Plain
 use Rattle.ledger.specs.Sample.{discover}
@@ -22,15 +23,15 @@ use Rattle.ledger.proofs.Lists.{snoc-length}
 use Rattle.kernel.specs.De.{de, code_gen, population_size_of, unless_nan, firsts_of}
 use Rattle.state.specs.Blank.{blank_dim}
 use Rattle.state.specs.View.{laid}
-use Rattle.assignment.specs.Raw.{start_of, raw_discovery, begun_with, raw_begin}
+use Rattle.assignment.specs.Raw.{raw_discovery, begun_with, raw_begin}
 use Rattle.assignment.specs.Laid.{laid_given, laid_begun}
 use Rattle.assignment.proofs.Refine.{dims-laid}
 
 -- The theorem for a call of discovery: `sample_discovery` on a state laid out is the ledger's `discover`.
-pub discovery-laid : (S : Setup) (m : Plain.State de) (c : Call de) → m.size ≡ none → length m.dims < 16
-    → raw_discovery (laid S m) c.distribution.distribution c.number ≡ laid_given S (discover de m c (de.random c.distribution (Plain.start_gen de m)))
+pub discovery-laid : (S : Setup) (m : Plain.State de) (c : Call de) (g : K.Gen ℕ) → m.size ≡ None → length m.dims < 16
+    → raw_discovery (laid S m) c.distribution.distribution c.number (code_gen g) ≡ laid_given S (discover de m c (de.random c.distribution g))
 unfolding raw_discovery laid
-discovery-laid S m c e h =
+discovery-laid S m c g e h =
     let a : set (pad_to 16 blank_dim m.dims) (length m.dims) c.distribution ≡ pad_to 16 blank_dim (m.dims ++ (c.distribution ∷ [])) = pad-put 16 blank_dim c.distribution m.dims h in
     let b : length m.dims + 1 ≡ length (m.dims ++ (c.distribution ∷ [])) = omega (arith, snoc-length m.dims c.distribution) in
     rw (a, b, e)
@@ -41,8 +42,8 @@ begun-laid S m N true r e = rw e
 begun-laid S m N false r e = rw e
 
 -- The theorem for the end of discovery: `finalize_discovery` on a state laid out is the ledger's `begin`, with the kernel's first candidates.
-pub begin-laid : (S : Setup) (m : Plain.State de) → raw_begin (laid S m) ≡ laid_begun S m (de.size_of S m.dims) (de.firsts S m.dims (de.size_of S m.dims) (Plain.start_gen de m))
+pub begin-laid : (S : Setup) (m : Plain.State de) (g : K.Gen ℕ) → raw_begin (laid S m) (code_gen g) ≡ laid_begun S m (de.size_of S m.dims) (de.firsts S m.dims (de.size_of S m.dims) g)
 unfolding raw_begin firsts_of laid
-begin-laid S m =
-    ap (λ (ds : List DimensionInfo). begun_with (laid S m) (population_size_of S ds) (random_candidates (space_of ds) (population_size_of S ds) (start_of (laid S m)))) (dims-laid S m)
-    ∙ begun-laid S m (population_size_of S m.dims) _ (random_candidates (space_of m.dims) (population_size_of S m.dims) (code_gen (Plain.start_gen de m))) refl
+begin-laid S m g =
+    ap (λ (ds : List DimensionInfo). begun_with (laid S m) (population_size_of S ds) (random_candidates (space_of ds) (population_size_of S ds) (code_gen g))) (dims-laid S m)
+    ∙ begun-laid S m (population_size_of S m.dims) _ (random_candidates (space_of m.dims) (population_size_of S m.dims) (code_gen g)) refl

@@ -1,6 +1,6 @@
 -- What the code does to its own arrays in steps 1 and 5: the contracts of the parts. proofs/Refine shows that on a state that is laid out it is the
 -- ledger's step, laid out.
-use Rattle.std.specs.Prelude.{ℕ, ◌+◌, ◌≤◌, ◌<◌, ◌^◌, min, max, ◌≡◌, Bool, true, false, not, cond, List, [], map, ltb, length, get_or, set, take}
+use Rattle.std.specs.Prelude.{ℕ, ◌+◌, ◌≤◌, ◌<◌, ◌^◌, min, max, ◌≡◌, Bool, true, cond, List, [], map, ltb, length, get_or, set, take, Some, Result, Ok, Err}
 use Rattle.rng_util.specs.Gen.{Made, made}
 use Rattle.rng_util.specs.Many.{pad_to}
 use Rattle.rng_util.specs.declared.Gen.{Gen}
@@ -12,7 +12,8 @@ use Rattle.distribution.specs.declared.DimensionInfo.{DimensionInfo}
 use Rattle.distribution.specs.declared.Distribution.{Distribution}
 use Rattle.distribution.specs.declared.ParamValue.{ParamValue}
 use Rattle.distribution.specs.declared.ParamValue.TheVariants.{Categorical}
-use Rattle.distribution.specs.declared.Verdict.TheVariants.{Valid}
+use Rattle.distribution.specs.declared.Refusal.{Refusal}
+use Rattle.distribution.specs.declared.Refusal.TheVariants.{EntryNan}
 use Rattle.common.specs.FromInternal.{from_internal}
 use Rattle.common.specs.Random.{random_setting}
 use Rattle.candidates.specs.Candidate.{blank_candidate, entry_of, choice_of}
@@ -23,14 +24,9 @@ use Rattle.candidates.specs.declared.Candidate.{Candidate}
 use Rattle.ledger.specs.Assignment.{place_in}
 use Rattle.kernel.specs.De.{decode_of, population_size_of}
 use Rattle.state.specs.Blank.{blank_trial}
-use Rattle.state.specs.View.{candidate_count}
-use Rattle.state.specs.declared.FirstTrial.TheVariants.{Named}
+use Rattle.state.specs.View.{candidate_count, dims_of}
 use Rattle.state.specs.declared.State.{State}
 use Rattle.state.specs.declared.TrialProgress.{TrialProgress}
-use Rattle.assignment.specs.declared.Accepted.{Accepted}
-use Rattle.assignment.specs.declared.Assigned.{Assigned}
-use Rattle.assignment.specs.declared.DrawnSetting.{DrawnSetting}
-use Rattle.assignment.specs.declared.discovery.Begun.{Begun}
 
 -- ---- what is in use
 
@@ -44,9 +40,6 @@ open_numbers n ts = map number_in (take n ts)
 -- a trial's place among the open ones
 abbrev pub place_of : State → ℕ → ℕ
 place_of s n = place_in (open_numbers s.n_trials s.trials) n
-
-abbrev pub dims_of : State → List DimensionInfo
-dims_of s = take s.n_dims s.dims
 
 -- the generator as a call finds it
 abbrev pub start_of : State → Gen
@@ -66,21 +59,33 @@ decoded_by d at ci y = cond (continuous d) (from_internal (entry_of y ci) d) (Ca
 unfoldable pub setting_for : List DimensionInfo → Distribution → ℕ → Candidate → Gen → Made ParamValue
 setting_for ds lent k y g = cond (ltb k (length ds)) (made (decode_of ds k y) g) (random_setting lent g)
 
--- the same as the code's struct
-abbrev pub setting_rec : Made ParamValue → DrawnSetting
-setting_rec m = record { setting = m.out; after = m.after }
+-- what was made with the lent generator, or a refusal
+abbrev pub made_ok : {A : Type 0} → Result A Refusal → Gen → Result (Made A) Refusal
+made_ok (Ok a) g = Ok (made a g)
+made_ok (Err r) g = Err r
 
--- a new candidate as the code's struct; 11: "a new candidate's entry is NaN"
-abbrev pub extra_rec : Made Candidate → Assigned
-extra_rec m = record { ok = not (any_nan m.out.x); candidate = m.out; after = m.after }
+-- 11: "a new candidate's entry is NaN"
+abbrev pub unless_bad : {A : Type 0} → Bool → A → Result A Refusal
+unless_bad bad a = cond bad (Err EntryNan) (Ok a)
+
+-- a new candidate
+abbrev pub extra_of : Made Candidate → Result (Made Candidate) Refusal
+extra_of m = unless_bad (any_nan m.out.x) m
 
 -- by whether the trial has a candidate: "After N trials each extra gets a random candidate"
-unfoldable pub candidate_for : Bool → Candidate → List DimensionInfo → Gen → Assigned
-candidate_for known own ds g = cond known (record { ok = true; candidate = own; after = g }) (extra_rec (random_candidate (space_of ds) g))
+unfoldable pub candidate_for : Bool → Candidate → List DimensionInfo → Gen → Result (Made Candidate) Refusal
+candidate_for known own ds g = cond known (Ok (made own g)) (extra_of (random_candidate (space_of ds) g))
 
--- refusal 11 hands back the state that came in
-abbrev pub missing : State → Accepted
-missing s = record { ok = false; setting = Categorical 0; draws = 0; state = s }
+-- an accepted call
+pub record Given : Type 0 where
+  pub setting : ParamValue
+  pub draws : ℕ
+  pub state : State
+
+-- what a call makes of the generator and the state that it is lent, or its refusal
+abbrev pub given_ok : Result ParamValue Refusal → Gen → State → Result Given Refusal
+given_ok (Ok x) g s = Ok (record { setting = x; draws = g.draws; state = s })
+given_ok (Err r) g s = Err r
 
 -- the trial n at a place has candidate y, its next place is k, and the generator's word is w
 abbrev pub with_trial : State → ℕ → ℕ → Candidate → ℕ → ℕ → State
@@ -107,21 +112,22 @@ abbrev pub next_at : State → ℕ → ℕ
 next_at s place = (get_or s.trials place blank_trial).next_dim
 
 -- the call of trial n, whose candidate is y, gives setting m of dimension k: "the next place stops at D"
-abbrev pub given_at : State → ℕ → ℕ → Candidate → ℕ → Made ParamValue → Accepted
+abbrev pub given_at : State → ℕ → ℕ → Candidate → ℕ → Made ParamValue → Given
 given_at s n place y k m =
-    record { ok = true; setting = m.out; draws = m.after.draws; state = with_trial s n place y (min (k + 1) s.n_dims) m.after.word }
+    record { setting = m.out; draws = m.after.draws; state = with_trial s n place y (min (k + 1) s.n_dims) m.after.word }
 
--- by the trial's candidate, or none
-unfoldable pub served_with : State → Distribution → ℕ → ℕ → Assigned → Accepted
-served_with s lent n place a =
-    cond a.ok (given_at s n place a.candidate (next_at s place) (setting_for (dims_of s) lent (next_at s place) a.candidate a.after)) (missing s)
+-- by the trial's candidate, or the refusal
+abbrev pub served_with : State → Distribution → ℕ → ℕ → Result (Made Candidate) Refusal → Result Given Refusal
+served_with s lent n place (Ok a) =
+    Ok (given_at s n place a.out (next_at s place) (setting_for (dims_of s) lent (next_at s place) a.out a.after))
+served_with s lent n place (Err r) = Err r
 
 -- the candidate at the place if it is in use, else an extra's
-abbrev pub assigned_at : State → ℕ → Gen → Assigned
+abbrev pub assigned_at : State → ℕ → Gen → Result (Made Candidate) Refusal
 assigned_at s place g = candidate_for (ltb place (candidate_count s)) (get_or s.candidates place no_candidate) (dims_of s) g
 
 -- the whole call
-unfoldable pub raw_active : State → Distribution → ℕ → Gen → Accepted
+unfoldable pub raw_active : State → Distribution → ℕ → Gen → Result Given Refusal
 raw_active s lent n g = served_with s lent n (place_of s n) (assigned_at s (place_of s n) g)
 
 -- what a call after discovery finds: bounds of places, and distributions that pass 4 to 7
@@ -130,7 +136,7 @@ pub record Ready (s : State) (lent : Distribution) (n : ℕ) (g : Gen) : Type 0 
   pub few_choices : FewChoices (dims_of s)
   pub few_trials : s.n_trials ≤ 224
   pub place : place_of s n < 224
-  pub valid : verdict_of lent ≡ Valid
+  pub valid : verdict_of lent ≡ (Ok tt)
   pub few_draws : g.draws < 2 ^ 60
 
 -- ---- step 1
@@ -140,7 +146,7 @@ abbrev pub with_dim : State → Distribution → ℕ → ℕ → State
 with_dim s d n w =
     record {
       setup = s.setup;
-      first = Named n;
+      first = Some n;
       discovered = s.discovered;
       n = s.n;
       n_dims = s.n_dims + 1;
@@ -156,11 +162,11 @@ with_dim s d n w =
     }
 
 -- the call's answer is that random setting
-abbrev pub discovered_by : State → Distribution → ℕ → Made ParamValue → Accepted
-discovered_by s d n m = record { ok = true; setting = m.out; draws = m.after.draws; state = with_dim s d n m.after.word }
+abbrev pub discovered_by : State → Distribution → ℕ → Made ParamValue → Given
+discovered_by s d n m = record { setting = m.out; draws = m.after.draws; state = with_dim s d n m.after.word }
 
-unfoldable pub raw_discovery : State → Distribution → ℕ → Accepted
-raw_discovery s d n = discovered_by s d n (random_setting d (start_of s))
+unfoldable pub raw_discovery : State → Distribution → ℕ → Gen → Given
+raw_discovery s d n g = discovered_by s d n (random_setting d g)
 
 -- "A call with another trial number fixes N, fills N random candidates"; the word stays: the generator is handed on beside the state
 abbrev pub with_size : State → ℕ → List Candidate → State
@@ -183,18 +189,15 @@ with_size s N cs =
     }
 
 -- with N slots, by the candidates
-unfoldable pub begun_with : State → ℕ → Made (List Candidate) → Begun
-begun_with s N m =
-    cond (any_bad m.out)
-    (record { ok = false; state = s; after = start_of s })
-    (record { ok = true; state = with_size s N m.out; after = m.after })
+unfoldable pub begun_with : State → ℕ → Made (List Candidate) → Result (Made State) Refusal
+begun_with s N m = unless_bad (any_bad m.out) (made (with_size s N m.out) m.after)
 
 -- N, by the size rule
 abbrev pub slot_count : State → ℕ
 slot_count s = population_size_of s.setup (dims_of s)
 
-unfoldable pub raw_begin : State → Begun
-raw_begin s = begun_with s (slot_count s) (random_candidates (space_of (dims_of s)) (slot_count s) (start_of s))
+unfoldable pub raw_begin : State → Gen → Result (Made State) Refusal
+raw_begin s g = begun_with s (slot_count s) (random_candidates (space_of (dims_of s)) (slot_count s) g)
 
 -- what the end of discovery finds
 pub record Complete (s : State) : Type 0 where

@@ -5,167 +5,97 @@
 pub mod discovery;
 pub mod places;
 
-ghost use Rattle.std.specs.Prelude.{◌≡◌, ◌+◌, ◌≤◌, ◌<◌, ◌^◌, min, take};
+ghost use Rattle.std.specs.Prelude.{◌≡◌, ◌≤◌, ◌<◌, ◌^◌, length, OnErr};
+ghost use Rattle.rng_util.specs.Gen.{made};
 ghost use Rattle.distribution.specs.Validate.{verdict_of};
 ghost use Rattle.candidates.specs.Space.{FewChoices};
 ghost use Rattle.kernel.specs.De.{decode_of};
-ghost use Rattle.assignment.specs.Raw.{decoded_by, setting_for, setting_rec, candidate_for, Ready, raw_active};
+ghost use Rattle.state.specs.View.{dims_of};
+ghost use Rattle.assignment.specs.Raw.{decoded_by, setting_for, made_ok, assigned_at, given_ok, Ready, raw_active};
 
 use candidates::Candidate;
-use distribution::{Ci, DimIdx, DimensionInfo, Distribution, ParamValue, Verdict};
+use distribution::{Ci, DimIdx, DimensionInfo, Distribution, ParamValue, Refusal};
 use rng_util::Gen;
-use state::sound::candidate_count;
 use state::{State, TrialProgress};
 
-// A setting, and the generator after it.
-#[derive(Clone, Copy)]
-pub struct DrawnSetting {
-    pub setting: ParamValue,
-    pub after: Gen,
-}
-
-// A trial's candidate, and the generator after it; `ok` is false where an entry of a new one is NaN.
-#[derive(Clone, Copy)]
-pub struct Assigned {
-    pub ok: bool,
-    pub candidate: Candidate,
-    pub after: Gen,
-}
-
-// What an accepted call makes. Where `ok` is false, refusal 11 is for the call and the state is as it came in.
-#[derive(Clone, Copy)]
-pub struct Accepted {
-    pub ok: bool,
-    pub setting: ParamValue,
-    pub draws: u64,
-    pub state: State,
-}
-
 // What a candidate means for a dimension of this distribution: its entry at ci, or its choice at the dimension's place.
-fn decode(d: Distribution, at: DimIdx, ci: Ci, c: Candidate) -> ParamValue
-    ensures { result ≡ decoded_by d at ci c }
+#[tactic(auto, unfolding(crate::specs::Raw::decoded_by))]
+fn decode(d: Distribution, at: DimIdx, ci: Ci, c: &Candidate) -> ParamValue
+    ensures { result ≡ decoded_by d at ci c.now }
 {
     if distribution::is_continuous(d) {
-        let v = candidates::entry(c, ci);
-        return common::from_internal(v, d);
+        return common::from_internal(c.entry(ci), d);
     }
-    let choice = candidates::choice(c, at);
-    ParamValue::Categorical(choice as u64)
+    ParamValue::Categorical(u64::from(c.choice(at)))
 }
 
 // The candidate's setting for dimension `at`, by the stored distribution.
-pub fn decode_at(dims: [DimensionInfo; 16], n_dims: usize, at: DimIdx, c: Candidate) -> ParamValue
-    requires { (at.0 < n_dims) × (n_dims ≤ 16) }
-    ensures { result ≡ decode_of (take n_dims dims) at.0 c }
+#[tactic(auto, unfolding(crate::specs::Raw::decoded_by, kernel::specs::De::decode_of))]
+pub fn decode_at(dims: &[DimensionInfo], at: DimIdx, c: &Candidate) -> ParamValue
+    requires { (at.0 < length dims.now) × (length dims.now ≤ 16) }
+    ensures { result ≡ decode_of dims.now at.0 c.now }
 {
-    let ci = candidates::continuous_place(dims, n_dims, at);
-    let k = at.0;
-    let dim = dims[k];
-    let stored = dim.distribution;
-    decode(stored, at, ci, c)
+    let ci = candidates::continuous_place(dims, at);
+    decode(dims[at.0].distribution, at, ci, c)
 }
 
 // The candidate's setting for dimension `at`; past the last, a random one of the lent distribution.
+#[tactic(auto, unfolding(crate::specs::Raw::setting_for))]
 pub fn setting_for(
-    dims: [DimensionInfo; 16],
-    n_dims: usize,
+    dims: &[DimensionInfo],
     lent: Distribution,
     at: DimIdx,
-    c: Candidate,
-    from: Gen,
-) -> DrawnSetting
-    requires { (n_dims ≤ 16) × (verdict_of lent ≡ Verdict.Valid) × (from.draws < 2 ^ 61) }
-    ensures { result ≡ setting_rec (setting_for (take n_dims dims) lent at.0 c from) }
+    c: &Candidate,
+    rng: &mut Gen,
+) -> ParamValue
+    requires { (length dims.now ≤ 16) × (verdict_of lent ≡ Ok tt) × (rng.old.draws < 2 ^ 61) }
+    ensures { made result rng.new ≡ setting_for dims.now lent at.0 c.now rng.old }
 {
-    let k = at.0;
-    if k < n_dims {
-        let setting = decode_at(dims, n_dims, at, c);
-        return DrawnSetting {
-            setting,
-            after: from,
-        };
+    if at.0 < dims.len() {
+        return decode_at(dims, at, c);
     }
-    let m = common::sample_random(from, lent);
-    let setting = m.setting;
-    let after = m.after;
-    DrawnSetting { setting, after }
+    common::sample_random(lent, rng)
 }
 
-// The trial's own candidate if there is one; else it is an extra, and gets a random one.
-fn assign_candidate(
-    known: bool,
-    own: Candidate,
-    dims: [DimensionInfo; 16],
-    n_dims: usize,
-    from: Gen,
-) -> Assigned
-    requires { (n_dims ≤ 16) × FewChoices (take n_dims dims) × (from.draws < 2 ^ 60) }
-    ensures { result ≡ candidate_for known own (take n_dims dims) from }
+// The trial's own candidate if its place has one; else it is an extra, and gets a random one.
+#[tactic(auto, unfolding(crate::specs::Raw::candidate_for))]
+fn assign_candidate(state: &State, place: usize, rng: &mut Gen) -> Result<Candidate, Refusal>
+    requires { (state.now.n_dims ≤ 16) × FewChoices (dims_of state.now) × (place < 224) × (rng.old.draws < 2 ^ 60) }
+    ensures { made_ok result rng.new ≡ assigned_at state.now place rng.old }
 {
-    if known {
-        return Assigned {
-            ok: true,
-            candidate: own,
-            after: from,
-        };
+    if place < state.candidate_count() {
+        return Ok(state.candidates[place]);
     }
-    let space = candidates::search_space(dims, n_dims);
-    let drawn = candidates::random_candidate(space, from);
-    let candidate = drawn.candidate;
-    let after = drawn.after;
-    let nan = candidates::has_nan(candidate);
-    Assigned {
-        ok: !nan,
-        candidate,
-        after,
+    let space = candidates::search_space(state.dims());
+    let extra = candidates::random_candidate(&space, rng);
+    if candidates::has_nan(&extra) {
+        return Err(Refusal::EntryNan);
     }
-}
-
-// One dimension on, and no further than past the last.
-pub fn next_dim_after(k: usize, n_dims: usize) -> usize
-    requires { n_dims ≤ 16 }
-    ensures { result ≡ min (k + 1) n_dims }
-{
-    if k < n_dims { k + 1 } else { n_dims }
+    Ok(extra)
 }
 
 // The call of a trial after discovery, once the generation has closed if it does. A new trial's place is unused: next_dim
-// is 0 there.
-pub fn sample_active(state: State, lent: Distribution, number: u64, from: Gen) -> Accepted
-    requires { Ready state lent number from }
-    ensures { result ≡ raw_active state lent number from }
+// is 0 there. A refusal leaves the state as it was.
+#[tactic(auto, unfolding(crate::specs::Raw::raw_active))]
+pub fn sample_active(
+    state: &mut State,
+    lent: Distribution,
+    number: u64,
+    rng: &mut Gen,
+) -> Result<ParamValue, Refusal>
+    requires { Ready state.old lent number rng.old }
+    ensures made { given_ok result rng.new state.new ≡ raw_active state.old lent number rng.old }
+    ensures kept { OnErr result (state.new ≡ state.old) }
 {
-    let dims = state.dims;
-    let n_dims = state.n_dims;
-    let trials = state.trials;
-    let n_trials = state.n_trials;
-    let place = places::place_of(trials, n_trials, number);
-    let count = candidate_count(state.discovered, state.n, n_trials);
-    let own = state.candidates[place];
-    let a = assign_candidate(place < count, own, dims, n_dims, from);
-    let candidate = a.candidate;
-    if a.ok {
-        let k = trials[place].next_dim;
-        let m = setting_for(dims, n_dims, lent, DimIdx(k), candidate, a.after);
-        let next_dim = next_dim_after(k, n_dims);
-        let mut s = state;
-        s.candidates[place] = candidate;
-        s.trials[place] = TrialProgress { number, next_dim };
-        s.n_trials = places::larger(n_trials, place + 1);
-        let after = m.after;
-        s.word = after.word;
-        let setting = m.setting;
-        return Accepted {
-            ok: true,
-            setting,
-            draws: after.draws,
-            state: s,
-        };
-    }
-    Accepted {
-        ok: false,
-        setting: ParamValue::Categorical(0),
-        draws: 0,
-        state,
-    }
+    let place = places::place_of(state.trials(), number);
+    let candidate = assign_candidate(state, place, rng)?;
+    let at = state.trials[place].next_dim;
+    let setting = setting_for(state.dims(), lent, DimIdx(at), &candidate, rng);
+    // One dimension on, and no further than past the last.
+    let next_dim = at.saturating_add(1).min(state.n_dims);
+    state.candidates[place] = candidate;
+    state.trials[place] = TrialProgress { number, next_dim };
+    state.n_trials = state.n_trials.max(place + 1);
+    state.word = rng.word;
+    Ok(setting)
 }

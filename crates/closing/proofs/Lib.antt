@@ -1,4 +1,3 @@
-pub mod When
-pub mod Made
 pub mod Extras
+pub mod Made
 pub mod Refine

@@ -1,16 +1,18 @@
 -- A closing on a state that is laid out is the ledger's closing, laid out. Field by field: the first N places of each array are the plain state's lists.
+use Rattle.std.specs.Prelude.{Option, Some, None, Result, Ok, Err}
 use mathlib.Core.Path.{◌≡◌, refl, sym, ap, ap₂, ◌∙◌}
 use mathlib.Core.Logic.{◌≢◌}
 use mathlib.Core.Bool.{Bool, true, false, cond}
 use mathlib.Core.List.{List, map}
-use mathlib.Core.Option.{Option, none, some}
 use Prim.Native.Nat.{ℕ, zero, suc, ◌-◌, ◌≤◌}
 use native.Mathlib.Omega.{arith}
 use borrow.Author.Tests.{ne_eqb}
 use lib.Ieee.{Float, nan, lt}
 use lib.ListN.{length, take, replicate, length-map}
 use lib.Seq.{take_at, take-append-le, length-take-le}
-use Rattle.rng_util.specs.Gen.{Made}
+use Rattle.rng_util.specs.Gen.{Made, made}
+use Rattle.distribution.specs.declared.Refusal.{Refusal}
+use Rattle.distribution.specs.declared.Refusal.TheVariants.{EntryNan}
 use Rattle.rng_util.specs.Many.{pad_to}
 use Rattle.candidates.specs.Candidate.{blank_candidate}
 use Rattle.candidates.specs.Nan.{any_bad}
@@ -33,17 +35,16 @@ use Rattle.kernel.proofs.Link.{link-store, link-select, link-best, link-least}
 use Rattle.state.specs.Blank.{blank_dim}
 use Rattle.state.specs.View.{laid, size_number}
 use Rattle.state.specs.declared.State.{State}
-use Rattle.closing.specs.Raw.{parents_after, became_smaller, settled, start_of, raw_parents, raw_slots, raw_nexts, reopened, closed_with, raw_close}
-use Rattle.closing.specs.declared.Closed.{Closed}
+use Rattle.closing.specs.Raw.{parents_after, became_smaller, settled, raw_parents, raw_slots, raw_nexts, reopened, closed_with, raw_close}
 use Rattle.closing.specs.declared.Slots.{Slots}
 use Rattle.closing.proofs.Extras.{stored-take, selected-take}
 
--- what the ledger's closing gives, laid out: `none` is refusal 11, which leaves the state and the generator as they came
-abbrev pub laid_closed : Setup → Plain.State de → Option (K.Made ℕ (Plain.State de)) → Closed
-laid_closed S m none = record { ok = false; state = laid S m; after = code_gen (Plain.start_gen de m) }
-laid_closed S m (some c) = record { ok = true; state = laid S c.out; after = code_gen c.gen }
+-- what the ledger's closing gives, laid out: `None` is refusal 11
+abbrev pub laid_closed : Setup → Option (K.Made ℕ (Plain.State de)) → Result (Made State) Refusal
+laid_closed S None = Err EntryNan
+laid_closed S (Some c) = Ok (made (laid S c.out) (code_gen c.gen))
 
-module _ (S : Setup) (m : Plain.State de) (N : ℕ) (sized : m.size ≡ some N) (run : Running de S N m) (rs : List Float) (many : N ≤ length rs) (numbers : All (λ r. r ≢ nan) (take N rs)) where
+module _ (S : Setup) (m : Plain.State de) (N : ℕ) (sized : m.size ≡ Some N) (run : Running de S N m) (rs : List Float) (many : N ≤ length rs) (numbers : All (λ r. r ≢ nan) (take N rs)) where
   abbrev row : List Float
   row = take N rs
 
@@ -116,12 +117,12 @@ module _ (S : Setup) (m : Plain.State de) (N : ℕ) (sized : m.size ≡ some N) 
       ∙ idle-by m.slots.closed refl
 
   -- the new candidates of the code, and of the ledger's kernel
-  abbrev nexts : Made (List Candidate)
-  nexts = next_candidates S (map member_of news) slots.best (space_of m.dims) (code_gen (Plain.start_gen de m))
+  abbrev nexts : K.Gen ℕ → Made (List Candidate)
+  nexts g = next_candidates S (map member_of news) slots.best (space_of m.dims) (code_gen g)
 
-  nexts-are : raw_nexts (laid S m) (map member_of news) ≡ nexts
+  nexts-are : (g : K.Gen ℕ) → raw_nexts (laid S m) (map member_of news) (code_gen g) ≡ nexts g
   unfolding laid
-  nexts-are = λ i. next_candidates S (map member_of news) (best-is i) (space_of (all-dims i)) (code_gen (Plain.start_gen de m))
+  nexts-are g = λ i. next_candidates S (map member_of news) (best-is i) (space_of (all-dims i)) (code_gen g)
 
   slots-are : raw_slots (laid S m) rs ≡ record { parents = pad_to 160 blank_member (map member_of news); best = slots.best; closed = slots.closed; idle = slots.idle }
   unfolding laid settled
@@ -133,13 +134,13 @@ module _ (S : Setup) (m : Plain.State de) (N : ℕ) (sized : m.size ≡ some N) 
 
   -- ---- THE CLOSING
 
-  pub close-is : raw_close (laid S m) rs ≡ laid_closed S m (L.close de S m (Plain.start_gen de m) (some (take N rs)))
+  pub close-is : (g : K.Gen ℕ) → raw_close (laid S m) rs (code_gen g) ≡ laid_closed S (L.close de S m g (Some (take N rs)))
   unfolding raw_close L.close nexts_of laid
-  close-is =
-      ap (closed_with (laid S m) (raw_slots (laid S m) rs)) (ap (raw_nexts (laid S m)) parents-are ∙ nexts-are)
-      ∙ go (any_bad nexts.out)
+  close-is g =
+      ap (closed_with (laid S m) (raw_slots (laid S m) rs)) (ap (λ (ps : List Member). raw_nexts (laid S m) ps (code_gen g)) parents-are ∙ nexts-are g)
+      ∙ go (any_bad (nexts g).out)
     where
-      go : (b : Bool) → cond b (record { ok = false; state = laid S m; after = start_of (laid S m) }) (record { ok = true; state = reopened (laid S m) (raw_slots (laid S m) rs) nexts.out; after = nexts.after })
-          ≡ laid_closed S m (unless_nan b nexts >>= λ (k : K.Made ℕ (List Candidate)). some (record { out = L.reopen de m slots k.out; gen = k.gen }))
+      go : (b : Bool) → cond {A = Result (Made State) Refusal} b (Err EntryNan) (Ok (made (reopened (laid S m) (raw_slots (laid S m) rs) (nexts g).out) (nexts g).after))
+          ≡ laid_closed S (unless_nan b (nexts g) >>= λ (k : K.Made ℕ (List Candidate)). Some (record { out = L.reopen de m slots k.out; gen = k.gen }))
       go true = refl
-      go false = ap (λ (s : State). record { ok = true; state = s; after = nexts.after }) (reopened-is nexts.out)
+      go false = ap (λ (s : State). Ok (made s (nexts g).after)) (reopened-is (nexts g).out)

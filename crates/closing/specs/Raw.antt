@@ -1,9 +1,12 @@
 -- A closing on the code's own state: its arrays, of which the first n places count. proofs/Refine says that it is the ledger's `close` on the plain state.
-use Rattle.std.specs.Prelude.{ℕ, ◌≤◌, Bool, true, false, ◌&&◌, cond, List, eqb, leb, Float, take, replicate}
+use Rattle.std.specs.Prelude.{ℕ, ◌≤◌, Bool, ◌&&◌, cond, List, eqb, leb, Float, take, replicate, Result, Ok, Err}
 use Rattle.std.specs.Float.Ieee.{lt}
-use Rattle.rng_util.specs.Gen.{Made}
+use Rattle.std.specs.List.{list_all}
+use Rattle.rng_util.specs.Gen.{Made, made}
 use Rattle.rng_util.specs.Many.{pad_to}
 use Rattle.rng_util.specs.declared.Gen.{Gen}
+use Rattle.distribution.specs.declared.Refusal.{Refusal}
+use Rattle.distribution.specs.declared.Refusal.TheVariants.{EntryNan}
 use Rattle.candidates.specs.Candidate.{blank_candidate}
 use Rattle.candidates.specs.Nan.{any_bad}
 use Rattle.candidates.specs.Space.{FewChoices, space_of}
@@ -14,10 +17,8 @@ use Rattle.selection.specs.Best.{values, best_slot, least_value}
 use Rattle.selection.specs.Records.{members_rec}
 use Rattle.selection.specs.Select.{selected, stored}
 use Rattle.ledger.specs.Closing.{up, new_idle}
-use Rattle.ledger.specs.Words.{all}
 use Rattle.state.specs.Blank.{blank_trial}
 use Rattle.state.specs.declared.State.{State}
-use Rattle.closing.specs.declared.Closed.{Closed}
 use Rattle.closing.specs.declared.Slots.{Slots}
 
 -- ---- when it closes
@@ -28,7 +29,7 @@ is_true b = b
 
 -- "exactly when at least N trials are assigned and its history has the first N", after discovery; `found` says of each trial whether the history has it
 unfoldable pub closes_now : Bool → ℕ → ℕ → List Bool → Bool
-closes_now discovered n trials found = discovered && (leb n trials && all is_true (take n found))
+closes_now discovered n trials found = discovered && (leb n trials && list_all is_true (take n found))
 
 -- ---- the slots after it
 
@@ -50,10 +51,6 @@ settled closed idle ps cs rs = let qs = parents_after closed ps cs rs in slots_o
 
 -- ---- the whole
 
--- the generator as a call finds it
-abbrev pub start_of : State → Gen
-start_of s = record { word = s.word; draws = 0 }
-
 -- the parents and the slots then, with the results in rs: "The value there of the i-th is the counted result of slot i", and candidates past the first n are extras'
 abbrev pub raw_parents : State → List Float → List Member
 raw_parents s rs = parents_after s.closed (take s.n s.parents) (take s.n s.candidates) (take s.n rs)
@@ -62,8 +59,8 @@ abbrev pub raw_slots : State → List Float → Slots
 raw_slots s rs = settled s.closed s.idle (take s.n s.parents) (take s.n s.candidates) (take s.n rs)
 
 -- "New candidates", from the new parents and their best slot
-abbrev pub raw_nexts : State → List Member → Made (List Candidate)
-raw_nexts s ps = next_candidates s.setup ps (best_slot (values ps)) (space_of (take s.n_dims s.dims)) (start_of s)
+abbrev pub raw_nexts : State → List Member → Gen → Made (List Candidate)
+raw_nexts s ps g = next_candidates s.setup ps (best_slot (values ps)) (space_of (take s.n_dims s.dims)) g
 
 -- the state with these slots and new candidates: "Trial records are cleared"; unused places are as in a fresh state
 abbrev pub reopened : State → Slots → List Candidate → State
@@ -85,16 +82,13 @@ reopened s o cs =
       idle = o.idle;
     }
 
--- refusal 11, "a new candidate's entry is NaN", leaves all as it was
-abbrev pub closed_with : State → Slots → Made (List Candidate) → Closed
-closed_with s o m =
-    cond (any_bad m.out)
-    (record { ok = false; state = s; after = start_of s })
-    (record { ok = true; state = reopened s o m.out; after = m.after })
+-- the state, and the generator after the draws; or refusal 11, "a new candidate's entry is NaN"
+abbrev pub closed_with : State → Slots → Made (List Candidate) → Result (Made State) Refusal
+closed_with s o m = cond (any_bad m.out) (Err EntryNan) (Ok (made (reopened s o m.out) m.after))
 
 -- step 6 on the state s, where the generation closes with the results in rs
-unfoldable pub raw_close : State → List Float → Closed
-raw_close s rs = closed_with s (raw_slots s rs) (raw_nexts s (raw_parents s rs))
+unfoldable pub raw_close : State → List Float → Gen → Result (Made State) Refusal
+raw_close s rs g = closed_with s (raw_slots s rs) (raw_nexts s (raw_parents s rs) g)
 
 -- what a closing finds: N slots, 4 to 160, and dimensions that pass 7
 pub record Closable (s : State) : Type 0 where

@@ -1,23 +1,19 @@
 // Step 6: a generation closes (sampler/de.rs, `maybe_update_generation`).
 #![tactic(auto)]
 
-ghost use Rattle.std.specs.Prelude.{◌≡◌, ◌≤◌, take};
-ghost use Rattle.ledger.specs.Closing.{up, new_idle};
+ghost use Rattle.std.specs.Prelude.{◌≡◌, ◌≤◌, ◌<◌, ◌^◌, length, take, OnErr};
+ghost use Rattle.std.specs.Result.{result_and};
+ghost use Rattle.rng_util.specs.Gen.{made};
+ghost use Rattle.ledger.specs.Closing.{new_idle};
 ghost use Rattle.selection.specs.Records.{members_rec};
-ghost use Rattle.closing.specs.Raw.{closes_now, parents_after, settled, Closable, raw_close};
+ghost use Rattle.std.specs.List.{list_all};
+ghost use Rattle.closing.specs.Raw.{is_true, closes_now, parents_after, raw_parents, raw_slots, Closable, raw_close};
 
 use candidates::Candidate;
+use distribution::Refusal;
 use evolution::Member;
 use rng_util::Gen;
 use state::{State, TrialProgress};
-
-// After a closing: the state, and the generator after the draws. Where `ok` is false, refusal 11, both are as they came.
-#[derive(Clone, Copy)]
-pub struct Closed {
-    pub ok: bool,
-    pub state: State,
-    pub after: Gen,
-}
 
 // What the closings have made.
 #[derive(Clone, Copy)]
@@ -28,132 +24,107 @@ pub struct Slots {
     pub idle: u32,
 }
 
+// The history has each of these trials.
+fn all_found(found: &[bool]) -> bool
+    ensures { result ≡ list_all is_true found.now }
+{
+    found.iter().all(|f| *f)
+}
+
 // Whether a generation closes: at least n trials are assigned, and the history has the first n.
-pub fn closes_now(discovered: bool, n: usize, n_trials: usize, found: [bool; 160]) -> bool
+#[tactic(auto, unfolding(crate::specs::Raw::closes_now))]
+pub fn closes_now(discovered: bool, n: usize, n_trials: usize, found: &[bool; 160]) -> bool
     requires { n ≤ 160 }
-    ensures { result ≡ closes_now discovered n n_trials found }
+    ensures { result ≡ closes_now discovered n n_trials found.now }
 {
-    if !discovered {
-        return false;
-    }
-    if n_trials < n {
-        return false;
-    }
-    let mut i: usize = 0;
-    while i < n {
-        if !found[i] {
-            return false;
-        }
-        i += 1;
-    }
-    true
+    discovered && n <= n_trials && all_found(&found[..n])
 }
 
-// A counter one up, to its stop.
-fn up_one(k: u32) -> u32
-    ensures { result ≡ up k }
-{
-    if k < 4294967295 { k + 1 } else { 4294967295 }
-}
-
-// Idle generations: closed since the least value of all slots last became smaller, 0 up to and at the first closing.
+// Idle generations: closed since the least value of all slots last became smaller, 0 up to and at the first closing. Both
+// counters stop at the top.
 fn new_idle(closed: u32, idle: u32, smaller: bool) -> u32
     ensures { result ≡ new_idle closed idle smaller }
 {
-    if closed == 0 {
-        return 0;
+    if closed == 0 || smaller {
+        0
+    } else {
+        idle.saturating_add(1)
     }
-    if smaller {
-        return 0;
-    }
-    up_one(idle)
 }
 
-// What each slot holds: the first closing stores candidates and results, a later one selects.
+// What each slot holds, in the first places: the first closing stores candidates and results, a later one selects.
+#[tactic(auto, unfolding(crate::specs::Raw::parents_after))]
 fn new_parents(
     closed: u32,
-    parents: [Member; 160],
-    candidates: [Candidate; 224],
-    results: [f64; 160],
-    n: usize,
+    parents: &[Member],
+    candidates: &[Candidate],
+    results: &[f64],
 ) -> [Member; 160]
-    requires { n ≤ 160 }
-    ensures { result ≡ members_rec (parents_after closed (take n parents) (take n candidates) (take n results)) }
+    requires few { length parents.now ≤ 160 }
+    requires tried { length candidates.now ≡ length parents.now }
+    requires told { length results.now ≡ length parents.now }
+    ensures whole { result ≡ members_rec (parents_after closed parents.now candidates.now results.now) }
+    ensures first { take (length parents.now) result ≡ parents_after closed parents.now candidates.now results.now }
 {
     if closed == 0 {
-        return selection::initialize_population(candidates, results, n);
+        return selection::initialize_population(candidates, results);
     }
-    selection::perform_selection(parents, candidates, results, n)
+    selection::perform_selection(parents, candidates, results)
 }
 
 // The slots after a generation has closed with these results: result i counts for slot i.
-fn settle(
-    closed: u32,
-    idle: u32,
-    parents: [Member; 160],
-    candidates: [Candidate; 224],
-    results: [f64; 160],
-    n: usize,
-) -> Slots
-    requires { n ≤ 160 }
-    ensures { result ≡ settled closed idle (take n parents) (take n candidates) (take n results) }
+fn settle(state: &State, results: &[f64]) -> Slots
+    requires { (state.now.n ≤ 160) × (state.now.n ≤ length results.now) }
+    ensures whole { result ≡ raw_slots state.now results.now }
+    ensures first { take state.now.n result.parents ≡ raw_parents state.now results.now }
 {
-    let population = new_parents(closed, parents, candidates, results, n);
-    let best = selection::best_slot(population, n);
-    let smaller = selection::least_value(population, n) < selection::least_value(parents, n);
+    let n = state.n;
+    let parents: &[Member] = &state.parents;
+    let candidates: &[Candidate] = &state.candidates;
+    let olds = &parents[..n];
+    let parents = new_parents(state.closed, olds, &candidates[..n], &results[..n]);
+    let news = &parents[..n];
+    let best = selection::best_slot(news);
+    let smaller = selection::least_value(news) < selection::least_value(olds);
     Slots {
-        parents: population,
+        parents,
         best,
-        closed: up_one(closed),
-        idle: new_idle(closed, idle, smaller),
+        closed: state.closed.saturating_add(1),
+        idle: new_idle(state.closed, state.idle, smaller),
     }
 }
 
-// The generation closes with these results, and the next one begins: new candidates, and no trial yet.
-pub fn close(state: State, results: [f64; 160]) -> Closed
-    requires { Closable state }
-    ensures { result ≡ raw_close state results }
+// The generation closes with these results, and the next one begins: new candidates, and no trial yet. A refusal leaves the
+// state as it was.
+#[inline(never)]
+#[tactic(auto, unfolding(crate::specs::Raw::raw_close))]
+pub fn close(state: &mut State, results: &[f64], rng: &mut Gen) -> Result<(), Refusal>
+    requires { Closable state.old × (state.old.n ≤ length results.now) × (rng.old.draws < 2 ^ 59) }
+    ensures made { result_and result (Ok (made state.new rng.new)) ≡ raw_close state.old results.now rng.old }
+    ensures kept { OnErr result (state.new ≡ state.old) }
 {
     let n = state.n;
-    let olds = state.parents;
-    let tried = state.candidates;
-    let slots = settle(state.closed, state.idle, olds, tried, results, n);
-    let parents = slots.parents;
-    let dims = state.dims;
-    let space = candidates::search_space(dims, state.n_dims);
-    let setup = state.setup;
-    let from = Gen {
-        word: state.word,
-        draws: 0,
-    };
-    let next = evolution::next_candidates(setup, parents, n, slots.best, space, from);
-    let candidates = next.candidates;
-    if candidates::any_bad(candidates, n) {
-        return Closed {
-            ok: false,
-            state,
-            after: from,
-        };
+    let Slots {
+        parents,
+        best,
+        closed,
+        idle,
+    } = settle(state, results);
+    let space = candidates::search_space(state.dims());
+    let candidates = evolution::next_candidates(&state.setup, &parents[..n], best, &space, rng);
+    if candidates::any_bad(&candidates[..n]) {
+        return Err(Refusal::EntryNan);
     }
     let blank = TrialProgress {
         number: 0,
         next_dim: 0,
     };
-    let trials = [blank; 224];
-    let s = State {
-        candidates,
-        parents,
-        n_trials: 0,
-        trials,
-        best: slots.best,
-        closed: slots.closed,
-        idle: slots.idle,
-        ..state
-    };
-    let after = next.after;
-    Closed {
-        ok: true,
-        state: s,
-        after,
-    }
+    state.candidates = candidates;
+    state.parents = parents;
+    state.n_trials = 0;
+    state.trials = [blank; 224];
+    state.best = best;
+    state.closed = closed;
+    state.idle = idle;
+    Ok(())
 }

@@ -1,10 +1,10 @@
 -- The refusals of the calls that only look, in the table's numbers.
+use Rattle.std.specs.Prelude.{Option, Some, None, Result, Ok, Err, slice_get}
 use Prim.Native.Nat.{ℕ}
 use mathlib.Core.Path.{◌≡◌, refl, ap, ◌∙◌}
 use mathlib.Core.Bool.{Bool, true, false, not, cond}
-use mathlib.Core.Option.{Option, none, some}
 use lib.Dec.{eqb, ltb}
-use lib.ListN.{length, get_elem?}
+use lib.ListN.{length}
 use Rattle.distribution.specs.declared.Refusal.TheVariants.{StateNotSound}
 use Rattle.candidates.specs.declared.Candidate.{Candidate}
 use Rattle.ledger.specs.Words.{refuse_if}
@@ -15,17 +15,16 @@ use Rattle.state.specs.View.{view}
 use Rattle.state.specs.declared.State.{State}
 use Rattle.slots.specs.Held.{held_by, held_of, held_refusal}
 use Rattle.slots.specs.Look.{bare, seen, look_of, look_refusal, unsound_refusal}
-use Rattle.slots.specs.declared.Held.{Held}
-use Rattle.slots.specs.declared.Held.TheVariants as H
-use Rattle.slots.specs.declared.LookAnswer.TheVariants as K
 use Rattle.slots.specs.declared.Looked.{Looked}
+use Rattle.distribution.specs.declared.Refusal.{Refusal}
+use Rattle.distribution.specs.declared.ParamValue.{ParamValue}
 
 -- the look: 0, and no other
 pub looked-by : (s : State) → look_refusal (look_of s).look ≡ unsound_refusal s
 unfolding look_of
 looked-by s = go (sound_state s) (eqb (view s).slots.closed 0)
   where
-    go : (x y : Bool) → look_refusal (cond x (cond y (bare K.Nothing) (seen (view s).slots)) (bare (K.Refused StateNotSound))).look ≡ refuse_if (not x) 0
+    go : (x y : Bool) → look_refusal (cond x (cond y (bare (Ok None)) (seen (view s).slots)) (bare (Err StateNotSound))).look ≡ refuse_if (not x) 0
     go true true = refl
     go true false = refl
     go false y = refl
@@ -36,16 +35,16 @@ look-meets s r e = (e, ap (λ (x : Looked). look_refusal x.look) e ∙ looked-by
 -- what a slot holds: 0, and no other
 pub held-by : (s : State) (i k : ℕ) → held_refusal (held_of s i k) ≡ unsound_refusal s
 unfolding held_of
-held-by s i k = go (sound_state s) (get_elem? (view s).slots.parents i)
+held-by s i k = go (sound_state s) (slice_get (view s).slots.parents i)
   where
-    either : (b : Bool) (x : Held) → held_refusal x ≡ none → held_refusal (cond b x H.Nothing) ≡ none
+    either : (b : Bool) (x : Result (Option ParamValue) Refusal) → held_refusal x ≡ None → held_refusal (cond b x (Ok None)) ≡ None
     either true x e = e
     either false x e = refl
 
-    go : (b : Bool) (o : Option (Parent Candidate)) → held_refusal (cond b (held_by (view s) k o) (H.Refused StateNotSound)) ≡ refuse_if (not b) 0
-    go true none = refl
-    go true (some p) = either (ltb k (length (view s).dims)) (H.Setting (de.decode (view s).dims k p.candidate)) refl
+    go : (b : Bool) (o : Option (Parent Candidate)) → held_refusal (cond b (held_by (view s) k o) (Err StateNotSound)) ≡ refuse_if (not b) 0
+    go true None = refl
+    go true (Some p) = either (ltb k (length (view s).dims)) (Ok (Some (de.decode (view s).dims k p.candidate))) refl
     go false o = refl
 
-pub held-meets : (s : State) (i k : ℕ) (r : Held) → r ≡ held_of s i k → (r ≡ held_of s i k) × (held_refusal r ≡ unsound_refusal s)
+pub held-meets : (s : State) (i k : ℕ) (r : Result (Option ParamValue) Refusal) → r ≡ held_of s i k → (r ≡ held_of s i k) × (held_refusal r ≡ unsound_refusal s)
 held-meets s i k r e = (e, ap held_refusal e ∙ held-by s i k)

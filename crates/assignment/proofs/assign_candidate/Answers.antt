@@ -1,15 +1,9 @@
--- `assign_candidate` meets its contract: by whether the trial has a candidate. Assumes nothing.
-use native.Mathlib.Omega.{arith}
-use borrow.Author.Rules.{rules}
-use Rattle.candidates.proofs.Passed.{space-dims, space-few}
-use Rattle.assignment.proofs.Laws.{known_is, extra-is}
+-- `assign_candidate` meets its contract: the place has a candidate, or a random one is made. Assumes nothing.
+use Rattle.std.proofs.Common.{arith}
+use Rattle.assignment.proofs.Laws.{space-fits}
 use Rattle.assignment.proofs.assign_candidate.Goals as goal
 
-pub returns-then-known : goal.returns-then-known
-returns-then-known c = known_is _ _ _ _ c.if-known.true
-
-pub random_candidate-drawn-requires : goal.random_candidate-drawn-requires
-random_candidate-drawn-requires c = (space-few c.args.dims c.args.n_dims _ (search rules) c.search_space-space.ensures, space-dims c.args.dims c.args.n_dims _ (search rules) c.search_space-space.ensures, omega arith)
-
-pub returns : goal.returns
-returns c = extra-is _ _ _ _ _ _ _ c.if-known.false c.search_space-space.ensures c.random_candidate-drawn.ensures c.has_nan-nan.ensures
+pub random_candidate-extra-requires : goal.random_candidate-extra-requires
+random_candidate-extra-requires c =
+    let h = space-fits c.args.state.now c.requires.0 _ c.dims.ensures _ c.search_space-space.ensures in
+    (h.0, h.1, omega arith)
