@@ -1,85 +1,118 @@
 -- What `accept` is handed, and what it makes: its state is its view laid out, so each part is the definition's on the view (Whole).
-use Prim.Native.Nat.{ℕ, ◌+◌, ◌≤◌, ◌<◌}
+use Rattle.std.specs.Prelude.{Option, Some, None, IsSome, Result, Ok, Err, OnErr, is_ok}
+use Prim.Native.Nat.{ℕ, ◌+◌, ◌^◌, ◌≤◌, ◌<◌}
 use mathlib.Core.Path.{◌≡◌, refl, sym, ap, subst, ◌∙◌}
 use mathlib.Core.Bool.{Bool, true, false, not, ◌&&◌}
 use mathlib.Core.List.{List}
-use mathlib.Core.Option.{Option, none, some}
 use native.Mathlib.Omega.{arith}
 use borrow.Author.Tests.{leb-false}
 use lib.Dec.{leb}
 use lib.Ieee.{Float}
 use lib.ListN.{length, take}
+use Rattle.rng_util.specs.Gen.{made}
+use Rattle.rng_util.specs.declared.Gen.{Gen}
 use Rattle.distribution.specs.Validate.{judged, verdict_of}
+use Rattle.distribution.specs.declared.ParamValue.{ParamValue}
+use Rattle.distribution.specs.declared.Refusal.{Refusal}
 use Rattle.distribution.specs.declared.Distribution.{Distribution}
-use Rattle.distribution.specs.declared.Verdict.TheVariants.{Valid}
 use Rattle.evolution.specs.declared.Setup.{Setup}
 use Rattle.ledger.specs.Words.{or_else, refuse_if, has}
 use Rattle.ledger.specs.State as Plain
+use Rattle.ledger.specs.Assignment.{Accepted}
 use Rattle.ledger.specs.Sample.{discovers}
 use Rattle.ledger.specs.Soundness.{Sound}
 use Rattle.ledger.proofs.Lists.{none≢some}
 use Rattle.kernel.specs.De.{de, code_gen}
 use Rattle.kernel.proofs.Kernel.{de-laws}
-use Rattle.state.specs.Setup.{setup_verdict, is_valid}
-use Rattle.state.specs.View.{view, laid, size_in, first_in}
+use Rattle.state.specs.Setup.{setup_verdict}
+use Rattle.state.specs.Sound.{Few}
+use Rattle.state.specs.View.{view, laid, size_in}
 use Rattle.state.specs.declared.State.{State}
-use Rattle.state.proofs.Measured.{Measured}
 use Rattle.state.proofs.Tidy as Tidy
-use Rattle.state.proofs.Whole.{Few}
-use Rattle.assignment.specs.Raw.{Ready, Complete, raw_active, raw_discovery, raw_begin, start_of}
-use Rattle.assignment.specs.declared.Accepted.{Accepted}
-use Rattle.assignment.specs.declared.discovery.Begun.{Begun}
+use Rattle.assignment.specs.Raw.{given_ok, Ready, Complete, raw_active, raw_discovery, raw_begin, start_of}
+use Rattle.assignment.specs.Laid.{laid_accepted}
 use Rattle.assignment.proofs.Meet.{judged-valid}
 use Rattle.closing.specs.Raw.{Closable, raw_close}
-use Rattle.closing.specs.declared.Closed.{Closed}
 use Rattle.de.specs.Gathered.{sampling_on, discovery_on, refusal_on, accept_on, refusal, row_if}
-use Rattle.de.specs.Whole.{taken, laid_taken, Acceptable}
+use Rattle.de.specs.Whole.{Acceptable}
 use Rattle.de.proofs.Whole as Whole
 
 -- none of two
-neither : (o p : Option ℕ) → or_else o p ≡ none → (o ≡ none) × (p ≡ none)
-neither none p e = (refl, e)
-neither (some r) p e = absurd (none≢some (sym e))
+neither : (o p : Option ℕ) → or_else o p ≡ None → (o ≡ None) × (p ≡ None)
+neither None p e = (refl, e)
+neither (Some r) p e = absurd (none≢some (sym e))
 
-not-refused : (b : Bool) (r : ℕ) → refuse_if b r ≡ none → b ≡ false
+not-refused : (b : Bool) (r : ℕ) → refuse_if b r ≡ None → b ≡ false
 not-refused true r e = absurd (none≢some (sym e))
 not-refused false r e = refl
 
-module _ (s : State) (mm : Measured s) (d : Distribution) (n : ℕ) (closes : Bool) (rs : List Float) (q : Acceptable s d n closes rs) where
+some-not : {A : Type 0} {o : Option A} → IsSome o → o ≡ None → ⊥
+some-not h e = cc (h, e)
+
+-- s is the state that comes in, and g the generator then
+module _ (s : State) (d : Distribution) (n : ℕ) (closes : Bool) (rs : List Float) (q : Acceptable s d n closes rs) (g : Gen) (begins : g ≡ start_of s) where
   abbrev S : Setup
   S = s.setup
 
   abbrev m : Plain.State de
   m = view s
 
+  -- what the definition makes of the call
+  abbrev accepted : Option (Accepted de)
+  accepted = accept_on S m.size m n d (row_if closes (take s.n rs))
+
   sound : Sound de S m
   sound = Tidy.view-sound s q.sound de-laws
 
-  ok : is_valid (setup_verdict S) ≡ true
+  ok : is_ok (setup_verdict S) ≡ true
   ok = Tidy.setup-valid s q.sound
 
   is : s ≡ laid S m
-  is = Tidy.is-laid s q.sound mm
+  is = Tidy.is-laid s q.sound q.arrays
 
   few : Few s
-  few = Tidy.sound-few s q.sound mm
+  few = Tidy.sound-few s q.sound q.arrays
 
-  refusals : (judged d ≡ none) × (refusal_on m.size m n (row_if closes (take s.n rs)) ≡ none)
+  start_is : g ≡ code_gen (Plain.start_gen de m)
+  unfolding view
+  start_is = begins
+
+  refusals : (judged d ≡ None) × (refusal_on m.size m n (row_if closes (take s.n rs)) ≡ None)
   unfolding refusal
   refusals =
       let a = neither (or_else (judged d) (refuse_if false 8)) _ q.unrefused in
-      ((neither (judged d) none a.0).0, a.1)
+      ((neither (judged d) None a.0).0, a.1)
 
-  good : judged d ≡ none
+  good : judged d ≡ None
   good = refusals.0
 
-  pub valid : verdict_of d ≡ Valid
+  valid : verdict_of d ≡ Ok tt
   valid = judged-valid d good
+
+  pub few_draws : g.draws < 2 ^ 59
+  few_draws = rw begins (omega arith)
+
+  -- a state and a generator from which an open generation serves the call as the definition accepts it; only where it is refused need they be as they came
+  pub record Opened (t : State) (h : Gen) : Type 0 where
+    pub ready : Ready t d n h
+    pub serves : raw_active t d n h ≡ laid_accepted S accepted
+    pub unmoved : accepted ≡ None → t ≡ s
+
+  pub served : (t : State) (h : Gen) → Opened t h → (a : Result ParamValue Refusal) (h' : Gen) (t' : State) → given_ok a h' t' ≡ raw_active t d n h → given_ok a h' t' ≡ laid_accepted S accepted
+  served t h o a h' t' e = e ∙ o.serves
+
+  pub served_kept : (t : State) (h : Gen) → Opened t h → (a : Result ParamValue Refusal) (h' : Gen) (t' : State) → given_ok a h' t' ≡ raw_active t d n h → OnErr a (t' ≡ t) → OnErr a (t' ≡ s)
+  served_kept t h o a h' t' e k = go a accepted (served t h o a h' t' e) o.unmoved k
+    where
+      go : (a : Result ParamValue Refusal) (p : Option (Accepted de)) → given_ok a h' t' ≡ laid_accepted S p → (p ≡ None → t ≡ s) → OnErr a (t' ≡ t) → OnErr a (t' ≡ s)
+      go (Ok x) p e u k = tt
+      go (Err r) None e u k = k ∙ u refl
+      go (Err r) (Some y) e u k = absurd cc
 
   -- ---- after discovery
 
   module _ (disc : s.discovered ≡ true) where
-    sized : m.size ≡ some s.n
+    sized : m.size ≡ Some s.n
     unfolding view
     sized = ap (λ (b : Bool). size_in b s.n) disc
 
@@ -89,54 +122,55 @@ module _ (s : State) (mm : Measured s) (d : Distribution) (n : ℕ) (closes : Bo
 
     -- a generation closes
     module _ (yes : closes ≡ true) where
-      many : s.n ≤ length rs
+      pub many : s.n ≤ length rs
       many = omega (arith, q.places, few.slots)
 
       abbrev row : List Float
       row = take s.n rs
 
       -- with the counted results
-      runs-row : accept_on S m.size m n d (row_if closes row) ≡ sampling_on S m n d (some row) (Plain.start_gen de m)
-      runs-row = ap (λ (b : Bool). accept_on S m.size m n d (row_if b row)) yes ∙ runs (some row)
+      runs-row : accepted ≡ sampling_on S m n d (Some row) (Plain.start_gen de m)
+      runs-row = ap (λ (b : Bool). accept_on S m.size m n d (row_if b row)) yes ∙ runs (Some row)
 
       pub close-requires : Closable s
       close-requires = subst Closable (sym is) (Whole.closable de-laws S m ok sound d good n s.n sized rs many (q.numbers yes))
 
-      module _ (r : Closed) (made : r ≡ raw_close s rs) where
-        made-laid : r ≡ raw_close (laid S m) rs
-        made-laid = made ∙ ap (λ (x : State). raw_close x rs) is
+      made-laid : raw_close s rs g ≡ raw_close (laid S m) rs (code_gen (Plain.start_gen de m))
+      made-laid = λ i. raw_close (is i) rs (start_is i)
 
-        pub active-requires : r.ok ≡ true → Ready r.state d n r.after
-        active-requires y = Whole.closed-ready de-laws S m ok sound d good n s.n sized rs many (q.numbers yes) r made-laid y
+      pub closed-opened : (t : State) (h : Gen) → Ok (made t h) ≡ raw_close s rs g → Opened t h
+      closed-opened t h e =
+          let by = Whole.closed_opened de-laws S m ok sound d good n s.n sized rs many (q.numbers yes) t h (e ∙ made-laid) in
+          record {
+            ready = by.0;
+            serves = by.1 ∙ ap (laid_accepted S) (sym runs-row);
+            unmoved = λ z. absurd (some-not by.2 (sym runs-row ∙ z));
+          }
 
-        pub closed-returns : (a : Accepted) → r.ok ≡ true → a ≡ raw_active r.state d n r.after → taken a ≡ laid_taken S (accept_on S m.size m n d (row_if closes row))
-        closed-returns a y f = Whole.closed_is de-laws S m ok sound d good n s.n sized rs many (q.numbers yes) r a made-laid y f ∙ ap (laid_taken S) (sym runs-row)
-
-        pub closed-missing : r.ok ≡ false → none ≡ laid_taken S (accept_on S m.size m n d (row_if closes row))
-        closed-missing y = sym (ap (laid_taken S) runs-row ∙ Whole.not-closed de-laws S m ok sound d good n s.n sized rs many (q.numbers yes) r made-laid y)
+      pub closed-missing : (r : Refusal) → Err r ≡ raw_close s rs g → Err r ≡ laid_accepted S accepted
+      closed-missing r e = Whole.not-closed de-laws S m ok sound d good n s.n sized rs many (q.numbers yes) r (e ∙ made-laid) ∙ ap (laid_accepted S) (sym runs-row)
 
     -- none closes
     module _ (no : closes ≡ false) where
       room : (not (has (Plain.numbers m.trials) n) && leb (s.n + 64) (length m.trials)) ≡ false
       unfolding refusal_on
-      room = not-refused _ 10 (sym (ap (λ (z : Option ℕ). refusal_on z m n none) sized) ∙ ap (λ (b : Bool). refusal_on m.size m n (row_if b (take s.n rs))) (sym no) ∙ refusals.1)
+      room = not-refused _ 10 (sym (ap (λ (z : Option ℕ). refusal_on z m n None) sized) ∙ ap (λ (b : Bool). refusal_on m.size m n (row_if b (take s.n rs))) (sym no) ∙ refusals.1)
 
-      start_is : start_of s ≡ code_gen (Plain.start_gen de m)
-      unfolding view
-      start_is = refl
-
-      pub plain-requires : Ready s d n (start_of s)
-      plain-requires = subst (λ (x : State). Ready x d n (start_of s)) (sym is) (rw start_is (Whole.plain_ready de-laws S m ok sound d good n s.n sized room))
-
-      pub plain-returns : (a : Accepted) → a ≡ raw_active s d n (start_of s) → taken a ≡ laid_taken S (accept_on S m.size m n d (row_if closes (take s.n rs)))
-      plain-returns a f =
-          Whole.plain-is de-laws S m ok sound d good n s.n sized room a (f ∙ ap (λ (x : State). raw_active x d n (start_of s)) is ∙ ap (raw_active (laid S m) d n) start_is)
-          ∙ ap (laid_taken S) (sym (ap (λ (b : Bool). accept_on S m.size m n d (row_if b (take s.n rs))) no ∙ runs none))
+      pub plain-opened : Opened s g
+      plain-opened =
+          record {
+            ready = subst (λ (x : State). Ready x d n g) (sym is) (rw start_is (Whole.plain_ready de-laws S m ok sound d good n s.n sized room));
+            serves =
+                (λ i. raw_active (is i) d n (start_is i))
+                ∙ Whole.plain-is de-laws S m ok sound d good n s.n sized room
+                ∙ ap (laid_accepted S) (sym (ap (λ (b : Bool). accept_on S m.size m n d (row_if b (take s.n rs))) no ∙ runs None));
+            unmoved = λ z. refl;
+          }
 
   -- ---- in discovery
 
   module _ (disc : s.discovered ≡ false) where
-    unsized : m.size ≡ none
+    unsized : m.size ≡ None
     unfolding view
     unsized = ap (λ (b : Bool). size_in b s.n) disc
 
@@ -144,39 +178,45 @@ module _ (s : State) (mm : Measured s) (d : Distribution) (n : ℕ) (closes : Bo
     unfolding accept_on
     finds b e row = ap (λ (z : Option ℕ). accept_on S z m n d row) unsized ∙ ap (λ (x : Bool). discovery_on S x m n d) e
 
-    first-is : discovers (first_in s.first) n ≡ discovers m.first n
+    first-is : discovers s.first n ≡ discovers m.first n
     unfolding view
     first-is = refl
 
-    module _ (yes : discovers (first_in s.first) n ≡ true) where
+    module _ (yes : discovers s.first n ≡ true) where
       few_dims : length m.dims < 16
       unfolding refusal_on
       few_dims =
           leb-false 16 (length m.dims)
           (rw (sym first-is ∙ yes) at (not-refused (discovers m.first n && leb 16 (length m.dims)) 9 (sym (ap (λ (z : Option ℕ). refusal_on z m n (row_if closes (take s.n rs))) unsized) ∙ refusals.1)))
 
-      pub discovery-requires : s.n_dims < 16
+      pub discovery-requires : (s.n_dims < 16) × (verdict_of d ≡ Ok tt) × (g.draws < 2 ^ 61)
       unfolding laid
-      discovery-requires = subst (λ (x : State). x.n_dims < 16) (sym is) few_dims
+      discovery-requires = (subst (λ (x : State). x.n_dims < 16) (sym is) few_dims, valid, omega (arith, few_draws))
 
-      pub discovery-returns : (a : Accepted) → a ≡ raw_discovery s d n → taken a ≡ laid_taken S (accept_on S m.size m n d (row_if closes (take s.n rs)))
-      discovery-returns a f =
-          Whole.discovery-is de-laws S m ok sound d good n unsized a few_dims (f ∙ ap (λ (x : State). raw_discovery x d n) is)
-          ∙ ap (laid_taken S) (sym (finds true (sym first-is ∙ yes) _))
+      pub discovery-returns : Ok (raw_discovery s d n g) ≡ laid_accepted S accepted
+      discovery-returns =
+          (λ i. Ok (raw_discovery (is i) d n (start_is i)))
+          ∙ Whole.discovery-is de-laws S m ok sound d good n unsized few_dims
+          ∙ ap (laid_accepted S) (sym (finds true (sym first-is ∙ yes) _))
 
-    module _ (no : discovers (first_in s.first) n ≡ false) where
-      pub begin-requires : Complete s
-      begin-requires = subst Complete (sym is) (Whole.completes de-laws S m ok sound d good n unsized)
+    module _ (no : discovers s.first n ≡ false) where
+      pub begin-requires : Complete s × (g.draws < 2 ^ 60)
+      begin-requires = (subst Complete (sym is) (Whole.completes de-laws S m ok sound d good n unsized), omega (arith, few_draws))
 
-      module _ (r : Begun) (made : r ≡ raw_begin s) where
-        begun-laid : r ≡ raw_begin (laid S m)
-        begun-laid = made ∙ ap raw_begin is
+      first-laid : raw_begin s g ≡ raw_begin (laid S m) (code_gen (Plain.start_gen de m))
+      first-laid = λ i. raw_begin (is i) (start_is i)
 
-        pub begun-requires : r.ok ≡ true → Ready r.state d n r.after
-        begun-requires y = Whole.begun-ready de-laws S m ok sound d good n unsized r begun-laid y
+      accepts : accepted ≡ discovery_on S false m n d
+      accepts = finds false (sym first-is ∙ no) _
 
-        pub begun-returns : (a : Accepted) → r.ok ≡ true → a ≡ raw_active r.state d n r.after → taken a ≡ laid_taken S (accept_on S m.size m n d (row_if closes (take s.n rs)))
-        begun-returns a y f = Whole.begun-is de-laws S m ok sound d good n unsized r a begun-laid y f ∙ ap (laid_taken S) (sym (finds false (sym first-is ∙ no) _))
+      pub begun-opened : (t : State) (h : Gen) → Ok (made t h) ≡ raw_begin s g → Opened t h
+      begun-opened t h e =
+          let by = Whole.begun_opened de-laws S m ok sound d good n unsized t h (e ∙ first-laid) in
+          record {
+            ready = by.0;
+            serves = by.1 ∙ ap (laid_accepted S) (sym accepts);
+            unmoved = λ z. absurd (some-not by.2 (sym accepts ∙ z));
+          }
 
-        pub begun-missing : r.ok ≡ false → none ≡ laid_taken S (accept_on S m.size m n d (row_if closes (take s.n rs)))
-        begun-missing y = sym (ap (laid_taken S) (finds false (sym first-is ∙ no) _) ∙ Whole.not-begun de-laws S m ok sound d good n unsized r begun-laid y)
+      pub begun-missing : (r : Refusal) → Err r ≡ raw_begin s g → Err r ≡ laid_accepted S accepted
+      begun-missing r e = Whole.not-begun de-laws S m ok sound d good n unsized r (e ∙ first-laid) ∙ ap (laid_accepted S) (sym accepts)

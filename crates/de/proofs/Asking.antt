@@ -1,46 +1,32 @@
 -- The wanted numbers lie between the least and the most of them: laws of a fold from the left, one for both.
-use Prim.Native.Nat.{ℕ, zero, suc, ◌+◌, ◌<◌, ◌≤◌, ◌-◌, ◌^◌, min, max}
-use mathlib.Core.Path.{◌≡◌, refl, sym, ap, ◌∙◌}
+use Prim.Native.Nat.{ℕ, zero, suc, ◌<◌, ◌≤◌, ◌-◌, ◌^◌, min, max}
+use Rattle.std.specs.Prelude.{fold}
+use mathlib.Core.Path.{◌≡◌, sym, ap, ◌∙◌}
 use mathlib.Core.List.{List, [], ◌∷◌}
 use mathlib.Core.Bool.{false}
-use native.Mathlib.Nat.{not-suc-le-zero, le_of_suc-le-suc, sub-zero}
-use native.Mathlib.Numerals.{add-one}
+use native.Mathlib.Nat.{not-suc-le-zero, le_of_suc-le-suc}
 use native.Mathlib.Omega.{arith}
-use lib.ListN.{length, get_or, take, drop, replicate, drop_of_length-le}
-use lib.Seq.{drop-cons, take_at}
-use Rattle.rng_util.specs.Many.{listed}
+use lib.ListN.{length, get_or, take, replicate}
+use lib.Seq.{take_at}
+use Rattle.rng_util.proofs.Parts.{listed-length}
 use Rattle.common.specs.Bounds.{zero_f}
 use Rattle.state.specs.declared.TrialProgress.{TrialProgress}
-use Rattle.de.specs.Ask.{fold_from, least_of, most_of, number_at, first_numbers, numbers_rec, asked_of}
+use Rattle.de.specs.Ask.{least_of, most_of, number_at, first_numbers, numbers_rec, asked_of}
 
-module _ (f : ℕ → ℕ → ℕ) where
-  -- a turn of the loop, and its end
-  pub fold-turn : (ns : List ℕ) (i m m' : ℕ) → i < length ns → m' ≡ f m (get_or ns i 0) → fold_from f m (drop i ns) ≡ fold_from f m' (drop (i + 1) ns)
-  unfolding fold_from
-  fold-turn ns i m m' h e = rw (e, add-one i, drop-cons ns i 0 h)
-
-  pub fold_end : (ns : List ℕ) (i m : ℕ) → length ns ≤ i → fold_from f m (drop i ns) ≡ m
-  unfolding fold_from
-  fold_end ns i m h = rw (drop_of_length-le ns {i = i} h)
-
-least-down : (ns : List ℕ) (m : ℕ) → fold_from min m ns ≤ m
-unfolding fold_from
+least-down : (ns : List ℕ) (m : ℕ) → fold min m ns ≤ m
 least-down [] m = omega arith
 least-down (n ∷ ns) m = omega (arith, least-down ns (min m n))
 
-least-each : (ns : List ℕ) (m i : ℕ) → i < length ns → fold_from min m ns ≤ get_or ns i 0
-unfolding fold_from
+least-each : (ns : List ℕ) (m i : ℕ) → i < length ns → fold min m ns ≤ get_or ns i 0
 least-each [] m i h = absurd (not-suc-le-zero h)
 least-each (n ∷ ns) m zero h = omega (arith, least-down ns (min m n))
 least-each (n ∷ ns) m (suc i) h = least-each ns (min m n) i (le_of_suc-le-suc h)
 
-most-up : (ns : List ℕ) (m : ℕ) → m ≤ fold_from max m ns
-unfolding fold_from
+most-up : (ns : List ℕ) (m : ℕ) → m ≤ fold max m ns
 most-up [] m = omega arith
 most-up (n ∷ ns) m = omega (arith, most-up ns (max m n))
 
-most-each : (ns : List ℕ) (m i : ℕ) → i < length ns → get_or ns i 0 ≤ fold_from max m ns
-unfolding fold_from
+most-each : (ns : List ℕ) (m i : ℕ) → i < length ns → get_or ns i 0 ≤ fold max m ns
 most-each [] m i h = absurd (not-suc-le-zero h)
 most-each (n ∷ ns) m zero h = omega (arith, most-up ns (max m n))
 most-each (n ∷ ns) m (suc i) h = most-each ns (max m n) i (le_of_suc-le-suc h)
@@ -51,20 +37,15 @@ between ns i h = (least-each ns (2 ^ 64 - 1) i h, most-each ns 0 i h)
 
 -- ---- what `ask` returns
 
-pub listed-length : {A : Type 0} (f : ℕ → A) (k i : ℕ) → length (listed f k i) ≡ k
-unfolding listed
-listed-length f zero i = refl
-listed-length f (suc k) i = ap suc (listed-length f k (i + 1))
-
 -- the first k places of the array are the numbers
-pub first_part : (ts : List TrialProgress) (k : ℕ) → take (k - 0) (drop 0 (numbers_rec (first_numbers ts k))) ≡ first_numbers ts k
-first_part ts k = rw (sub-zero k) (take_at (first_numbers ts k) _ k (listed-length (number_at ts) k 0))
+pub first_part : (ts : List TrialProgress) (k : ℕ) → take k (numbers_rec (first_numbers ts k)) ≡ first_numbers ts k
+first_part ts k = take_at (first_numbers ts k) _ k (listed-length (number_at ts) k 0)
 
-pub asked_is : (ts : List TrialProgress) (k K lo hi : ℕ) (numbers : List ℕ) → k ≡ K → numbers ≡ numbers_rec (first_numbers ts k) → lo ≡ least_of (take (k - 0) (drop 0 numbers)) → hi ≡ most_of (take (k - 0) (drop 0 numbers))
+pub asked_is : (ts : List TrialProgress) (k K lo hi : ℕ) (numbers : List ℕ) → k ≡ K → numbers ≡ numbers_rec (first_numbers ts k) → lo ≡ least_of (take k numbers) → hi ≡ most_of (take k numbers)
     → record { lo = lo; hi = hi; wanted = record { nan = false; n = k; numbers = numbers; found = replicate 160 false; values = replicate 160 zero_f } } ≡ asked_of (first_numbers ts K)
 unfolding asked_of
 asked_is ts k K lo hi numbers e f g h =
     rw (← e)
-    (let l : lo ≡ least_of (first_numbers ts k) = g ∙ ap (λ (xs : List ℕ). least_of (take (k - 0) (drop 0 xs))) f ∙ ap least_of (first_part ts k) in
-    let m : hi ≡ most_of (first_numbers ts k) = h ∙ ap (λ (xs : List ℕ). most_of (take (k - 0) (drop 0 xs))) f ∙ ap most_of (first_part ts k) in
+    (let l : lo ≡ least_of (first_numbers ts k) = g ∙ ap (λ (xs : List ℕ). least_of (take k xs)) f ∙ ap least_of (first_part ts k) in
+    let m : hi ≡ most_of (first_numbers ts k) = h ∙ ap (λ (xs : List ℕ). most_of (take k xs)) f ∙ ap most_of (first_part ts k) in
     λ i. record { lo = l i; hi = m i; wanted = record { nan = false; n = sym (listed-length (number_at ts) k 0) i; numbers = f i; found = replicate 160 false; values = replicate 160 zero_f } })

@@ -1,23 +1,23 @@
 -- THE CEILING FOR CALLERS (W1): what `draw_ceiling` answers for the state after a call is at least what the call drew; and no call draws more than 494,080. Idea: each case of the draw ceiling is at most N × (.. + D)
 -- where N is fixed, and before that at most D.
+use Rattle.std.specs.Prelude.{Option, Some, None, is_none, slice_get, is_ok}
 use Prim.Native.Nat.{ℕ, ◌+◌, ◌*◌, ◌≤◌, min}
 use native.Mathlib.Nat.{le_trans, mul-le-mul}
 use native.Mathlib.Omega.{arith}
 use mathlib.Core.Path.{◌≡◌, refl, sym, ap, subst, ◌∙◌}
 use mathlib.Core.Bool.{Bool, true, false, ◌&&◌, ◌||◌, cond}
 use mathlib.Core.List.{List}
-use mathlib.Core.Option.{Option, none, some}
 use borrow.Author.Tests.{leb-true, ne_eqb}
 use lib.Dec.{leb}
 use lib.Ieee.{Float}
-use lib.ListN.{length, get_elem?, length-take}
+use lib.ListN.{length, length-take}
 use Rattle.distribution.specs.declared.Distribution.{Distribution}
 use Rattle.history.specs.declared.CompletedTrial.{CompletedTrial}
 use Rattle.candidates.specs.declared.Candidate.{Candidate}
 use Rattle.evolution.specs.declared.Setup.{Setup}
 use Rattle.evolution.specs.declared.DEStrategy.{DEStrategy}
 use Rattle.ledger.specs.Kernel as L
-use Rattle.ledger.specs.Words.{or_else, is_none}
+use Rattle.ledger.specs.Words.{or_else}
 use Rattle.ledger.specs.Call.{Call, call_refusal}
 use Rattle.ledger.specs.State as Plain
 use Rattle.ledger.specs.State.{numbers, start_gen}
@@ -31,7 +31,7 @@ use Rattle.kernel.specs.Ceiling.{closes, has_candidate, per_slot, generation_cei
 use Rattle.kernel.specs.De.{de, extra_of, nexts_of}
 use Rattle.kernel.proofs.Ceiling.{step-few}
 use Rattle.kernel.proofs.Kernel.{de-laws}
-use Rattle.state.specs.Setup.{setup_verdict, is_valid}
+use Rattle.state.specs.Setup.{setup_verdict}
 use Rattle.state.specs.Sound.{clean_test, sound_state}
 use Rattle.state.specs.View.{size_in, size_number, view, laid}
 use Rattle.state.specs.declared.State.{State}
@@ -49,7 +49,7 @@ generation-least q N D h =
     omega (arith, one)
 
 module _ (S : Setup) (q : DEStrategy) (before after : Plain.State de) (n : ℕ) (v : Sound de S after) where
-  in-discovery : after.size ≡ none → step_ceiling q before after n ≤ length after.dims
+  in-discovery : after.size ≡ None → step_ceiling q before after n ≤ length after.dims
   unfolding step_ceiling
   in-discovery e = rw e (go (closes before after) (is_none before.size) (has_candidate before n))
     where
@@ -63,7 +63,7 @@ module _ (S : Setup) (q : DEStrategy) (before after : Plain.State de) (n : ℕ) 
       go false false true = omega arith
       go false false false = omega arith
 
-  after-discovery : (N : ℕ) → after.size ≡ some N → step_ceiling q before after n ≤ generation_ceiling q N (length after.dims)
+  after-discovery : (N : ℕ) → after.size ≡ Some N → step_ceiling q before after n ≤ generation_ceiling q N (length after.dims)
   unfolding step_ceiling
   after-discovery N e = rw e (go (closes before after || (is_none before.size && true)) (has_candidate before n))
     where
@@ -78,13 +78,13 @@ module _ (S : Setup) (q : DEStrategy) (before after : Plain.State de) (n : ℕ) 
       go false true = omega (arith, least)
       go false false = least
 
-  module _ (ok : is_valid (setup_verdict S) ≡ true) where
+  module _ (ok : is_ok (setup_verdict S) ≡ true) where
     in-call : step_ceiling q before after n ≤ ceiling_for q (size_number after.size) (length after.dims)
     in-call = go after.size refl
       where
         go : (z : Option ℕ) → after.size ≡ z → step_ceiling q before after n ≤ ceiling_for q (size_number z) (length after.dims)
-        go none e = rw (within q 0 (length after.dims) (omega arith) v.dims_few) (in-discovery e)
-        go (some N) e =
+        go None e = rw (within q 0 (length after.dims) (omega arith) v.dims_few) (in-discovery e)
+        go (Some N) e =
             let some-slots : N ≡ 0 → ⊥ = λ z. omega (arith, z, (v.after N e).sized, de-laws.sized S after.dims) in
             rw (within q N (length after.dims) (slots-few S after v ok N e) v.dims_few, ne_eqb N 0 some-slots) (after-discovery N e)
 
@@ -95,34 +95,34 @@ module _ (S : Setup) (c : Call de) where
   abbrev Keeps : Plain.State de → Plain.State de → Type 0
   Keeps m t = (t.size ≡ m.size) × (t.dims ≡ m.dims)
 
-  assign-keeps : (m : Plain.State de) (g : L.Gen ℕ) (o : Option Candidate) (a : Accepted de) → assign de S m c g o ≡ some a → Keeps m a.state
+  assign-keeps : (m : Plain.State de) (g : L.Gen ℕ) (o : Option Candidate) (a : Accepted de) → assign de S m c g o ≡ Some a → Keeps m a.state
   unfolding assign
-  assign-keeps m g (some y) a e = subst (λ (x : Accepted de). Keeps m x.state) (some_inj e) (refl, refl)
-  assign-keeps m g none a e = subst (λ (x : Accepted de). Keeps m x.state) (some_inj (bind-some (extra_of m.dims g) _ a e).2) (refl, refl)
+  assign-keeps m g (Some y) a e = subst (λ (x : Accepted de). Keeps m x.state) (some_inj e) (refl, refl)
+  assign-keeps m g None a e = subst (λ (x : Accepted de). Keeps m x.state) (some_inj (bind-some (extra_of m.dims g) _ a e).2) (refl, refl)
 
-  close-keeps : (m : Plain.State de) (g : L.Gen ℕ) (o : Option (List Float)) (r : L.Made ℕ (Plain.State de)) → close de S m g o ≡ some r → Keeps m r.out
+  close-keeps : (m : Plain.State de) (g : L.Gen ℕ) (o : Option (List Float)) (r : L.Made ℕ (Plain.State de)) → close de S m g o ≡ Some r → Keeps m r.out
   unfolding close
-  close-keeps m g none r e = subst (λ (x : L.Made ℕ (Plain.State de)). Keeps m x.out) (some_inj e) (refl, refl)
-  close-keeps m g (some row) r e =
+  close-keeps m g None r e = subst (λ (x : L.Made ℕ (Plain.State de)). Keeps m x.out) (some_inj e) (refl, refl)
+  close-keeps m g (Some row) r e =
       let o = settle de m.slots m.candidates row in
       subst (λ (x : L.Made ℕ (Plain.State de)). Keeps m x.out) (some_inj (bind-some (nexts_of S m.dims o.parents o.best g) _ r e).2) (refl, refl)
 
-  step_keeps : (m : Plain.State de) (N : ℕ) → m.size ≡ some N → Keeps m (step de S m c).state
+  step_keeps : (m : Plain.State de) (N : ℕ) → m.size ≡ Some N → Keeps m (step de S m c).state
   unfolding step accept sampling
   step_keeps m N sized = go (or_else (call_refusal de c) (state_refusal de m.size m c)) (accept de S m.size m c) (ap (λ (z : Option ℕ). accept de S z m c) (sym sized))
     where
-      go : (r : Option ℕ) (o : Option (Accepted de)) → accept de S (some N) m c ≡ o → Keeps m (outcome de m r o).state
-      go (some r) o e = (refl, refl)
-      go none none e = (refl, refl)
-      go none (some a) e =
+      go : (r : Option ℕ) (o : Option (Accepted de)) → accept de S (Some N) m c ≡ o → Keeps m (outcome de m r o).state
+      go (Some r) o e = (refl, refl)
+      go None None e = (refl, refl)
+      go None (Some a) e =
           let p = bind-some (close de S m (start_gen de m) (counted de N (numbers m.trials) c.history)) _ a e in
           let k = close-keeps m (start_gen de m) (counted de N (numbers m.trials) c.history) p.0 p.1 in
-          let j = assign-keeps p.0.out p.0.gen (get_elem? p.0.out.candidates (place_in (numbers p.0.out.trials) c.number)) a p.2 in
+          let j = assign-keeps p.0.out p.0.gen (slice_get p.0.out.candidates (place_in (numbers p.0.out.trials) c.number)) a p.2 in
           (j.0 ∙ k.0, j.1 ∙ k.1)
 
 -- ---- N and D in the code's state
 
-view-size : (s : State) → s.discovered ≡ true → (view s).size ≡ some s.n
+view-size : (s : State) → s.discovered ≡ true → (view s).size ≡ Some s.n
 unfolding view
 view-size s f = ap (λ (b : Bool). size_in b s.n) f
 
@@ -175,7 +175,7 @@ module _ (s : State) (d : Distribution) (n : ℕ) (h : List CompletedTrial) wher
           let t = (step de S (view s) c).state in
           let u = step-sound de de-laws S (view s) c v in
           let k = step_keeps S c (view s) s.n (view-size s f) in
-          let sized : t.size ≡ some s.n = k.0 ∙ view-size s f in
+          let sized : t.size ≡ Some s.n = k.0 ∙ view-size s f in
           let few : length t.dims ≤ s.n_dims = omega (arith, ap length k.1, view-dims s) in
           let at : (step de S (view s) c).draws ≤ ceiling_for S.strategy s.n (length t.dims) =
           subst (λ (z : Option ℕ). (step de S (view s) c).draws ≤ ceiling_for S.strategy (size_number z) (length t.dims)) sized

@@ -1,10 +1,10 @@
 -- THE CEILING IS MET where a small state can show it, by computation: 4 slots under Rand1, a double and a choice. The first call of all draws 1 and its ceiling is 1; a call past the last dimension the
 -- same; an extra draws 2, its ceiling. The call that ends discovery draws N × D, 8. Each is a call of the code, on the small state laid out in its arrays.
+use Rattle.std.specs.Prelude.{Some, None, is_ok}
 use Prim.Native.Nat.{ℕ}
 use mathlib.Core.Path.{◌≡◌, refl, sym, ap, subst, ◌∙◌}
 use mathlib.Core.Bool.{true, false}
 use mathlib.Core.List.{List, [], ◌∷◌, map}
-use mathlib.Core.Option.{none, some}
 use lib.Dec.{T}
 use lib.ListN.{replicate}
 use lib.Ieee.{is_nan, lt, add, mul, of_int}
@@ -16,21 +16,19 @@ use Rattle.distribution.specs.Validate.{verdict_of}
 use Rattle.distribution.specs.declared.DimensionInfo.{DimensionInfo}
 use Rattle.distribution.specs.declared.Distribution.{Distribution}
 use Rattle.distribution.specs.declared.Distribution.TheVariants.{Float as FloatD, Categorical as CategoricalD}
-use Rattle.distribution.specs.declared.FloatStep.TheVariants.{Unset as NoStep}
 use Rattle.distribution.proofs.Examples.{dec}
 use Rattle.common.specs.Random.{random_setting}
 use Rattle.candidates.specs.Candidate.{packed}
 use Rattle.candidates.specs.Nan.{any_nan, any_bad}
 use Rattle.candidates.specs.Random.{random_entry, random_entries, random_choice, random_choices, random_candidate, random_candidates}
-use Rattle.candidates.specs.Space.{continuous_dims, spans_of, space_of}
+use Rattle.candidates.specs.Space.{continuous_dims, space_of}
 use Rattle.history.specs.declared.CompletedTrial.{CompletedTrial}
 use Rattle.evolution.specs.declared.DEStrategy.TheVariants.{Rand1}
-use Rattle.evolution.specs.declared.PopulationSize.TheVariants.{Of}
 use Rattle.evolution.specs.declared.Setup.{Setup}
 use Rattle.ledger.specs.Words.{all, has, differing}
 use Rattle.ledger.specs.Call as C
 use Rattle.ledger.specs.State as Plain
-use Rattle.ledger.specs.State.{Result, fresh, no_slots}
+use Rattle.ledger.specs.State.{Returned, fresh, no_slots}
 use Rattle.ledger.specs.Soundness.{Sound, sound_test}
 use Rattle.ledger.specs.Assignment.{place_in, next_in, move, assign}
 use Rattle.ledger.specs.Closing.{best_of, scan, results_of, counted, close}
@@ -41,7 +39,7 @@ use Rattle.kernel.specs.Ceiling.{step_ceiling}
 use Rattle.kernel.specs.De.{de, firsts_of, extra_of}
 use Rattle.kernel.specs.Fits.{fits, entries_fit, choices_fit}
 use Rattle.kernel.proofs.Kernel.{de-laws}
-use Rattle.state.specs.Setup.{setup_verdict, is_valid}
+use Rattle.state.specs.Setup.{setup_verdict}
 use Rattle.state.specs.View.{view, laid}
 use Rattle.state.specs.declared.State.{State}
 use Rattle.state.proofs.Laid.{view-laid, laid-sound}
@@ -56,10 +54,10 @@ pub record Draws (s : State) (d : Distribution) (n : ℕ) (h : List CompletedTri
 -- ---- the set-up, the dimensions and the states
 
 abbrev pub setup : Setup
-setup = record { mutation_factor = dec 5 1; crossover_rate = dec 5 1; strategy = Rand1; population_size = Of 4; seed = 0 }
+setup = record { mutation_factor = dec 5 1; crossover_rate = dec 5 1; strategy = Rand1; population_size = Some 4; seed = 0 }
 
 abbrev pub unit : Distribution
-unit = FloatD (record { low = dec 0 0; high = dec 1 0; log_scale = false; step = NoStep })
+unit = FloatD (record { low = dec 0 0; high = dec 1 0; log_scale = false; step = None })
 
 abbrev pub one_of_three : Distribution
 one_of_three = CategoricalD (record { n_choices = 3 })
@@ -69,16 +67,16 @@ dims = record { distribution = unit } ∷ record { distribution = one_of_three }
 
 -- trial 1 has asked for both dimensions
 abbrev pub found : Plain.State de
-found = record { word = 0; first = some 1; dims = dims; size = none; candidates = []; trials = []; slots = no_slots de }
+found = record { word = 0; first = Some 1; dims = dims; size = None; candidates = []; trials = []; slots = no_slots de }
 
 -- each slot's trial has asked for both
 abbrev pub all_open : Plain.State de
 all_open =
     record {
       word = 0;
-      first = some 1;
+      first = Some 1;
       dims = dims;
-      size = some 4;
+      size = Some 4;
       candidates = replicate 4 (packed (dec 5 1 ∷ []) (0 ∷ 2 ∷ []));
       trials = map (λ (n : ℕ). record { number = n; next = 2 }) (2 ∷ 3 ∷ 4 ∷ 5 ∷ []);
       slots = no_slots de;
@@ -86,7 +84,7 @@ all_open =
 
 -- ---- from the small state to the code's
 
-small-valid : is_valid (setup_verdict setup) ≡ true
+small-valid : is_ok (setup_verdict setup) ≡ true
 unfolding setup_verdict dec is_nan lt
 small-valid = refl
 
@@ -101,8 +99,8 @@ module _ (m : Plain.State de) (test : sound_test de setup m ≡ true) (d : Distr
   shown : (drawn most : ℕ) → (step de setup m (call_of n d h)).draws ≡ drawn → step_ceiling Rand1 m (step de setup m (call_of n d h)).state n ≡ most → Draws (laid setup m) d n h drawn most
   unfolding laid
   shown drawn most x y =
-      let after : view (sample_of (laid setup m) d n h).state ≡ (step de setup m (call_of n d h)).state = ap (λ (r : Result de State). view r.state) result-is ∙ view-laid setup _ (step-sound de de-laws setup m (call_of n d h) v) in
-      record { draws = ap (λ (r : Result de State). r.draws) result-is ∙ x; ceiling = (λ i. step_ceiling Rand1 (view-laid setup m v i) (after i) n) ∙ y }
+      let after : view (sample_of (laid setup m) d n h).state ≡ (step de setup m (call_of n d h)).state = ap (λ (r : Returned de State). view r.state) result-is ∙ view-laid setup _ (step-sound de de-laws setup m (call_of n d h) v) in
+      record { draws = ap (λ (r : Returned de State). r.draws) result-is ∙ x; ceiling = (λ i. step_ceiling Rand1 (view-laid setup m v i) (after i) n) ∙ y }
 
 -- ---- THE CALLS
 
@@ -117,7 +115,7 @@ pub record CeilingMet : Type 0 where
   pub an_extra : Draws (laid setup all_open) unit 6 [] 2 2
 
 pub ceiling-met : CeilingMet
-unfolding dec is_nan lt add mul of_int drawn unit_of draw_of many verdict_of random_setting any_nan any_bad random_entry random_entries random_choice random_choices random_candidate random_candidates continuous_dims spans_of space_of all has differing C.any_bad fresh best_of scan results_of counted close place_in next_in move assign sound_test discovery sampling state_refusal accept step firsts_of extra_of fits entries_fit choices_fit step_ceiling
+unfolding dec is_nan lt add mul of_int drawn unit_of draw_of many verdict_of random_setting any_nan any_bad random_entry random_entries random_choice random_choices random_candidate random_candidates continuous_dims space_of all has differing C.any_bad fresh best_of scan results_of counted close place_in next_in move assign sound_test discovery sampling state_refusal accept step firsts_of extra_of fits entries_fit choices_fit step_ceiling
 ceiling-met =
     record {
       first_dimension = shown (fresh de setup) refl unit 1 [] 1 1 refl refl;

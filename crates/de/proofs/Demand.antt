@@ -1,5 +1,6 @@
 -- DEMAND 3 OF THE CODE: over every list of sample calls from what an accepted set-up returns, each call getting the state that the last one returned. The code is a
 -- sampler that meets the definition: each call returns, viewed, what the definition makes of the view.
+use Rattle.std.specs.Prelude.{is_ok}
 use mathlib.Core.Path.{◌≡◌, sym, ap, subst, ◌∙◌}
 use mathlib.Core.Bool.{true}
 use mathlib.Core.List.{List}
@@ -17,7 +18,7 @@ use Rattle.ledger.proofs.SoundTest.{sound-test}
 use Rattle.ledger.proofs.Theorem.{program-demand3, program-answers}
 use Rattle.kernel.specs.De.{de}
 use Rattle.kernel.proofs.Kernel.{de-laws}
-use Rattle.state.specs.Setup.{setup_verdict, is_valid}
+use Rattle.state.specs.Setup.{setup_verdict}
 use Rattle.state.specs.Sound.{sound_state}
 use Rattle.state.specs.View.{view, laid}
 use Rattle.state.specs.declared.State.{State}
@@ -31,7 +32,7 @@ record Clean (S : Setup) (s : State) : Type 0 where
   pub sound : Sound de S (view s)
   pub unused : s ≡ laid S (view s)
 
-module _ (S : Setup) (ok : is_valid (setup_verdict S) ≡ true) where
+module _ (S : Setup) (ok : is_ok (setup_verdict S) ≡ true) where
   -- a sound plain state, laid out
   laid-clean : (m : Plain.State de) → Sound de S m → Clean S (laid S m)
   laid-clean m v = record { sound = subst (Sound de S) (sym (view-laid S m v)) v; unused = ap (laid S) (sym (view-laid S m v)) }

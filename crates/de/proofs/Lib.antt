@@ -5,7 +5,6 @@ pub mod Whole
 pub mod Demand
 pub mod Accepting
 pub mod Sampling
-pub mod PlainCall
 pub mod Scanned
 pub mod Numbers
 pub mod Refused

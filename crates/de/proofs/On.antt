@@ -1,9 +1,9 @@
 -- A sample call by what it reads of its history is the definition's: after the history is read, no part of the call looks at it again.
+use Rattle.std.specs.Prelude.{Option, Some, None, is_ok}
 use Prim.Native.Nat.{ℕ, ◌≤◌}
 use mathlib.Core.Path.{◌≡◌, refl, ap, ◌∙◌}
 use mathlib.Core.Bool.{Bool, true, false, ◌&&◌, cond}
 use mathlib.Core.List.{List, []}
-use mathlib.Core.Option.{Option, none, some}
 use native.Mathlib.Omega.{arith}
 use borrow.Author.Tests.{lt-leb}
 use lib.Dec.{ltb}
@@ -24,7 +24,7 @@ use Rattle.ledger.specs.Soundness.{Sound, sound_test}
 use Rattle.ledger.proofs.SoundTest.{sound-test}
 use Rattle.ledger.proofs.Lists.{true→T}
 use Rattle.kernel.specs.De.{de}
-use Rattle.state.specs.Setup.{setup_verdict, is_valid}
+use Rattle.state.specs.Setup.{setup_verdict}
 use Rattle.state.specs.Sound.{clean_test, sound_state}
 use Rattle.state.specs.View.{view}
 use Rattle.state.specs.declared.State.{State}
@@ -39,13 +39,13 @@ serve-bare : (m : Plain de) (n : ℕ) (d : Distribution) (h : List CompletedTria
 serve-bare m n d h cs y g = ap (hand_out de m (call_of n d []) cs) (setting-bare (ltb (next_in m.trials n) (length m.dims)) m n d h (next_in m.trials n) y g)
 
 bind-same : {A B : Type 0} (o : Option A) (f k : A → Option B) → ((a : A) → f a ≡ k a) → (o >>= f) ≡ (o >>= k)
-bind-same none f k h = refl
-bind-same (some a) f k h = h a
+bind-same None f k h = refl
+bind-same (Some a) f k h = h a
 
 assign-bare : (S : Setup) (m : Plain de) (n : ℕ) (d : Distribution) (h : List CompletedTrial) (g : Gen ℕ) (o : Option Candidate) → assign de S m (call_of n d h) g o ≡ assign de S m (call_of n d []) g o
 unfolding assign
-assign-bare S m n d h g none = bind-same (de.extra S m.dims g) _ _ (λ x. ap {B = Option (Accepted de)} (λ (a : Accepted de). some a) (serve-bare m n d h _ _ _))
-assign-bare S m n d h g (some y) = ap {B = Option (Accepted de)} (λ (a : Accepted de). some a) (serve-bare m n d h _ _ _)
+assign-bare S m n d h g None = bind-same (de.extra S m.dims g) _ _ (λ x. ap {B = Option (Accepted de)} (λ (a : Accepted de). Some a) (serve-bare m n d h _ _ _))
+assign-bare S m n d h g (Some y) = ap {B = Option (Accepted de)} (λ (a : Accepted de). Some a) (serve-bare m n d h _ _ _)
 
 sampling-on : (S : Setup) (N : ℕ) (m : Plain de) (n : ℕ) (d : Distribution) (h : List CompletedTrial) (g : Gen ℕ) → sampling de S N m (call_of n d h) g ≡ sampling_on S m n d (counted de N (numbers m.trials) h) g
 unfolding sampling sampling_on
@@ -58,7 +58,7 @@ module _ (L : Laws de) where
   discovery-on S false m n d h e =
       let N = de.size_of S m.dims in
       let four : 4 ≤ N = L.sized S m.dims in
-      let c : counted de N (numbers m.trials) h ≡ none = rw (e, lt-leb N 0 (omega arith)) in
+      let c : counted de N (numbers m.trials) h ≡ None = rw (e, lt-leb N 0 (omega arith)) in
       bind-same (de.firsts S m.dims N (start_gen de m)) _ _ (λ k. sampling-on S N (begin de m N k.out) n d h k.gen
       ∙ ap (λ (r : Option (List Float)). sampling_on S (begin de m N k.out) n d r k.gen) c)
 
@@ -67,17 +67,17 @@ module _ (L : Laws de) where
   step-on S m n d h v = rw (refusals m.size, accepts m.size refl)
     where
       refusals : (z : Option ℕ) → state_refusal de z m (call_of n d h) ≡ refusal_on z m n (row_for z m h)
-      refusals none = unfold state_refusal refusal_on in refl
-      refusals (some N) = unfold state_refusal refusal_on in refl
+      refusals None = unfold state_refusal refusal_on in refl
+      refusals (Some N) = unfold state_refusal refusal_on in refl
 
       accepts : (z : Option ℕ) → m.size ≡ z → accept de S z m (call_of n d h) ≡ accept_on S z m n d (row_for z m h)
-      accepts none e = unfold accept accept_on in discovery-on S (discovers m.first n) m n d h (v.before e).no_trials
-      accepts (some N) e = unfold accept accept_on in sampling-on S N m n d h (start_gen de m)
+      accepts None e = unfold accept accept_on in discovery-on S (discovers m.first n) m n d h (v.before e).no_trials
+      accepts (Some N) e = unfold accept accept_on in sampling-on S N m n d h (start_gen de m)
 
   -- the call that reads its history is the one on what it reads
   pub sampled-on : (s : State) (d : Distribution) (n : ℕ) (h : List CompletedTrial) → sample_of s d n h ≡ sampled_on s d n (any_bad de h) (row_for (view s).size (view s) h)
   unfolding sample_of sampled_on sound_state
-  sampled-on s d n h = go (clean_test s) (is_valid (setup_verdict s.setup)) (sound_test de s.setup (view s)) refl
+  sampled-on s d n h = go (clean_test s) (is_ok (setup_verdict s.setup)) (sound_test de s.setup (view s)) refl
     where
       go : (a b c : Bool) → sound_test de s.setup (view s) ≡ c
           → cond (a && (b && c)) (laid_result s.setup (step de s.setup (view s) (call_of n d h))) (unsound s)

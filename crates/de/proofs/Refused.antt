@@ -1,19 +1,19 @@
 -- DEMAND 1 OF THE CODE, for every state, distribution, trial number and history, sound or not: the refusal is the first of the table that applies, and it counts zero draws and hands
 -- back the state that came in. A refused call on a sound state returns that state laid out again, and a sound state is laid out.
+use Rattle.std.specs.Prelude.{Option, Some, None, Err, is_none}
 use Prim.Native.Nat.{ℕ}
 use mathlib.Core.Path.{◌≡◌, refl, sym, ap, subst, ◌∙◌}
 use mathlib.Core.Bool.{Bool, true, false, cond}
 use mathlib.Core.List.{List}
-use mathlib.Core.Option.{Option, none, some}
 use Rattle.distribution.specs.Refusals.{refusal_number}
 use Rattle.distribution.specs.declared.Distribution.{Distribution}
 use Rattle.distribution.specs.declared.Refusal.{Refusal}
 use Rattle.evolution.specs.declared.Setup.{Setup}
 use Rattle.history.specs.declared.CompletedTrial.{CompletedTrial}
-use Rattle.ledger.specs.Words.{or_else, refuse_if, is_none}
+use Rattle.ledger.specs.Words.{or_else, refuse_if}
 use Rattle.ledger.specs.Call.{Call, call_refusal}
 use Rattle.ledger.specs.State as Plain
-use Rattle.ledger.specs.State.{Result, refuse}
+use Rattle.ledger.specs.State.{Returned, refuse}
 use Rattle.ledger.specs.Assignment.{Accepted}
 use Rattle.ledger.specs.Claim.{refusal_in}
 use Rattle.ledger.specs.Sample.{step, outcome, state_refusal, accept, eleven_at}
@@ -29,17 +29,16 @@ use Rattle.state.proofs.Tidy as Tidy
 use Rattle.de.specs.Answer.{plain_answer, numbered}
 use Rattle.de.specs.Demand1.{table_refusal, only_refuses, Demand1}
 use Rattle.de.specs.Sample.{call_of, laid_result, unsound, sample_of}
-use Rattle.de.specs.declared.Answer.TheVariants.{Refused}
 use Rattle.de.specs.declared.Sampled.{Sampled}
 
 -- ---- its number is the first of the table that applies, for every state
 
 outcome-by : (m : Plain.State de) (S : Setup) (o p : Option ℕ) (a : Option (Accepted de))
     → refusal_in de (laid_result S (outcome de m (or_else o p) a)).answer ≡ or_else o (or_else p (refuse_if (is_none a) 11))
-outcome-by m S (some r) p a = refl
-outcome-by m S none (some r) a = refl
-outcome-by m S none none none = refl
-outcome-by m S none none (some a) = refl
+outcome-by m S (Some r) p a = refl
+outcome-by m S None (Some r) a = refl
+outcome-by m S None None None = refl
+outcome-by m S None None (Some a) = refl
 
 pub refused_by : (s : State) (d : Distribution) (n : ℕ) (h : List CompletedTrial) → refusal_in de (sample_of s d n h).answer ≡ table_refusal s (call_of n d h)
 unfolding sample_of step eleven_at
@@ -51,22 +50,22 @@ refused_by s d n h = go (sound_state s)
     by : Option ℕ
     by = or_else (call_refusal de c) (or_else (state_refusal de (view s).size (view s) c) (refuse_if (is_none (accept de s.setup (view s).size (view s) c)) 11))
 
-    go : (b : Bool) → refusal_in de (cond b (laid_result s.setup (step de s.setup (view s) c)) (unsound s)).answer ≡ cond b by (some 0)
+    go : (b : Bool) → refusal_in de (cond b (laid_result s.setup (step de s.setup (view s) c)) (unsound s)).answer ≡ cond b by (Some 0)
     go true = outcome-by (view s) s.setup (call_refusal de c) (state_refusal de (view s).size (view s) c) (accept de s.setup (view s).size (view s) c)
     go false = refl
 
 -- ---- a refusal hands back the state that came in
 
 -- what was returned, by its answer
-abbrev Unmoved : State → Result de State → Plain.Answer de → Type 0
+abbrev Unmoved : State → Returned de State → Plain.Answer de → Type 0
 Unmoved s r (Plain.refused q) = r ≡ refuse de q s
 Unmoved s r (Plain.given x) = Unit {0}
 
 laid-unmoved : (s : State) (is : s ≡ laid s.setup (view s)) (o : Option ℕ) (a : Option (Accepted de))
     → Unmoved s (laid_result s.setup (outcome de (view s) o a)) (outcome de (view s) o a).answer
-laid-unmoved s is (some r) a = ap (refuse de r) (sym is)
-laid-unmoved s is none none = ap (refuse de 11) (sym is)
-laid-unmoved s is none (some a) = tt
+laid-unmoved s is (Some r) a = ap (refuse de r) (sym is)
+laid-unmoved s is None None = ap (refuse de 11) (sym is)
+laid-unmoved s is None (Some a) = tt
 
 unmoved : (s : State) → Measured s → (d : Distribution) (n : ℕ) (h : List CompletedTrial) → Unmoved s (sample_of s d n h) (sample_of s d n h).answer
 unfolding sample_of step
@@ -75,7 +74,7 @@ unmoved s mm d n h = go (sound_state s) refl
     c : Call de
     c = call_of n d h
 
-    made : Result de State
+    made : Returned de State
     made = laid_result s.setup (step de s.setup (view s) c)
 
     go : (b : Bool) → sound_state s ≡ b → Unmoved s (cond b made (unsound s)) (cond b made (unsound s)).answer
@@ -84,15 +83,15 @@ unmoved s mm d n h = go (sound_state s) refl
 
 -- `Measured`: the arrays have their lengths, as those of every state in memory do; r is what the call returned, by its contract
 module _ (s : State) (mm : Measured s) (d : Distribution) (n : ℕ) (h : List CompletedTrial) (r : Sampled) (returned : numbered r ≡ sample_of s d n h) where
-  pub refused_unmoved : (q : Refusal) → r.answer ≡ Refused q → r ≡ only_refuses q s
+  pub refused_unmoved : (q : Refusal) → r.answer ≡ Err q → r ≡ only_refuses q s
   refused_unmoved q e =
-      let a : (sample_of s d n h).answer ≡ Plain.refused (refusal_number q) = sym (ap (λ (x : Result de State). x.answer) returned) ∙ ap plain_answer e in
+      let a : (sample_of s d n h).answer ≡ Plain.refused (refusal_number q) = sym (ap (λ (x : Returned de State). x.answer) returned) ∙ ap plain_answer e in
       let all : numbered r ≡ refuse de (refusal_number q) s = returned ∙ subst (Unmoved s (sample_of s d n h)) a (unmoved s mm d n h) in
       λ i. record { answer = e i; state = (all i).state; draws = (all i).draws }
 
   -- THE DEMAND
   pub sample-demand1 : Demand1 s (call_of n d h) r
-  sample-demand1 = record { refused_by = ap (λ (x : Result de State). refusal_in de x.answer) returned ∙ refused_by s d n h; refused_unmoved = refused_unmoved }
+  sample-demand1 = record { refused_by = ap (λ (x : Returned de State). refusal_in de x.answer) returned ∙ refused_by s d n h; refused_unmoved = refused_unmoved }
 
 -- ---- any call on any sound state leaves a sound state
 pub sampled-sound : (s : State) (d : Distribution) (n : ℕ) (h : List CompletedTrial) → sound_state s ≡ true → sound_state (sample_of s d n h).state ≡ true

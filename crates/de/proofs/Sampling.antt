@@ -1,9 +1,10 @@
 -- The whole call by its tests: which refusal is given, and that what is returned is the definition's, laid out.
+use Rattle.std.specs.Prelude.{Option, Some, None, Result, Ok, Err, OnErr, ⊤, is_none}
+use Rattle.std.specs.Result.{result_and}
 use Prim.Native.Nat.{ℕ, suc, ◌+◌}
 use mathlib.Core.Path.{◌≡◌, refl, sym, ap, ◌∙◌}
 use mathlib.Core.Bool.{Bool, true, false, not, ◌&&◌, cond, true≢false}
 use mathlib.Core.List.{List, [], ◌∷◌}
-use mathlib.Core.Option.{Option, none, some}
 use native.Mathlib.Omega.{arith}
 use borrow.Author.Tests.{le-leb, lt-leb}
 use lib.Dec.{leb, eqb}
@@ -13,46 +14,43 @@ use Rattle.distribution.specs.Refusals.{refusal_number}
 use Rattle.distribution.specs.Validate.{judged, verdict_of, refusal_of, refused_if}
 use Rattle.distribution.specs.declared.Distribution.{Distribution}
 use Rattle.distribution.specs.declared.Refusal.{Refusal}
-use Rattle.distribution.specs.declared.Refusal.TheVariants.{HistoryNan, Dimensions, ExtraTrials, EntryNan}
-use Rattle.distribution.specs.declared.Verdict.{Verdict}
-use Rattle.distribution.specs.declared.Verdict.TheVariants as V'
+use Rattle.distribution.specs.declared.Refusal.TheVariants.{StateNotSound, HistoryNan, Dimensions, ExtraTrials, EntryNan}
+use Rattle.distribution.specs.declared.ParamValue.{ParamValue}
+use Rattle.rng_util.specs.declared.Gen.{Gen}
 use Rattle.evolution.specs.declared.Setup.{Setup}
 use Rattle.history.specs.declared.Gathered.{Gathered}
-use Rattle.ledger.specs.Words.{or_else, refuse_if, has, is_none}
+use Rattle.ledger.specs.Words.{or_else, refuse_if, has}
 use Rattle.ledger.specs.State as Plain
 use Rattle.ledger.specs.State.{refuse}
 use Rattle.ledger.specs.Assignment.{place_in, Accepted as Taken}
 use Rattle.ledger.specs.Sample.{discovers, outcome}
-use Rattle.ledger.proofs.Lists.{none≢some, some_inj}
+use Rattle.ledger.proofs.Lists.{none≢some}
 use Rattle.ledger.proofs.Trials.{place-in}
 use Rattle.kernel.specs.De.{de}
-use Rattle.state.specs.Sound.{sound_state}
-use Rattle.state.specs.View.{view, laid, size_in, first_in}
+use Rattle.state.specs.Sound.{sound_state, Few}
+use Rattle.state.specs.View.{view, laid, size_in}
 use Rattle.state.specs.declared.State.{State}
-use Rattle.state.proofs.Measured.{Measured}
 use Rattle.state.proofs.Tidy as Tidy
-use Rattle.state.proofs.Whole.{Few}
-use Rattle.assignment.specs.Raw.{place_of}
-use Rattle.assignment.specs.declared.Accepted.{Accepted}
+use Rattle.assignment.specs.Raw.{place_of, Given, given_ok}
+use Rattle.assignment.specs.Laid.{laid_given, laid_accepted}
 use Rattle.assignment.proofs.Refine.{place-laid}
 use Rattle.closing.specs.Raw.{closes_now}
-use Rattle.de.specs.declared.Answer.TheVariants.{Setting, Refused}
-use Rattle.de.specs.Answer.{numbered}
-use Rattle.de.specs.Refusing.{count_refusal, or_verdict, first_refusal}
-use Rattle.de.specs.Sample.{laid_result, unsound}
+use Rattle.de.specs.Answer.{numbered, sampled}
+use Rattle.de.specs.Refusing.{count_refusal, first_refusal}
+use Rattle.de.specs.Sample.{laid_result}
 use Rattle.de.specs.Gathered.{refusal_on, accept_on, refusal, step_on, sampled_on, row_if, row_in}
-use Rattle.de.specs.Whole.{taken, laid_taken, Acceptable, Numbers}
+use Rattle.de.specs.Whole.{Acceptable, Handed}
 
 -- ---- numbers of refusals
 
-if-number : (b : Bool) (r : Refusal) → refusal_of (refused_if b r V'.Valid) ≡ refuse_if b (refusal_number r)
+if-number : (b : Bool) (r : Refusal) → refusal_of (refused_if b r (Ok tt)) ≡ refuse_if b (refusal_number r)
 if-number true r = refl
 if-number false r = refl
 
-first-number : (v : Verdict) (b : Bool) (w : Verdict) → refusal_of (or_verdict v (refused_if b HistoryNan w)) ≡ or_else (or_else (refusal_of v) (refuse_if b 8)) (refusal_of w)
-first-number (V'.Refused r) b w = refl
-first-number V'.Valid true w = refl
-first-number V'.Valid false w = refl
+first-number : (v : Result ⊤ Refusal) (b : Bool) (w : Result ⊤ Refusal) → refusal_of (result_and v (refused_if b HistoryNan w)) ≡ or_else (or_else (refusal_of v) (refuse_if b 8)) (refusal_of w)
+first-number (Err r) b w = refl
+first-number (Ok tt) true w = refl
+first-number (Ok tt) false w = refl
 
 no_row : (b : Bool) (xs : List Float) → is_none (row_if b xs) ≡ not b
 no_row true xs = refl
@@ -77,7 +75,7 @@ new-place ns n = go (has ns n) refl
 
 -- ---- the refusal
 
-module _ (s : State) (mm : Measured s) (e : sound_state s ≡ true) (d : Distribution) (n : ℕ) (g : Gathered) where
+module _ (s : State) (g : Gathered) (h : Handed s g) (e : sound_state s ≡ true) (d : Distribution) (n : ℕ) where
   abbrev S : Setup
   S = s.setup
 
@@ -85,10 +83,10 @@ module _ (s : State) (mm : Measured s) (e : sound_state s ≡ true) (d : Distrib
   m = view s
 
   is : s ≡ laid S m
-  is = Tidy.is-laid s e mm
+  is = Tidy.is-laid s e h.arrays
 
   pub few : Few s
-  few = Tidy.sound-few s e mm
+  few = Tidy.sound-few s e h.arrays
 
   abbrev row : Option (List Float)
   row = row_in s g.found g.values
@@ -114,17 +112,17 @@ module _ (s : State) (mm : Measured s) (e : sound_state s ≡ true) (d : Distrib
   full_is = ap (λ (k : ℕ). leb s.n_trials k) place_is ∙ ap (λ (k : ℕ). leb k (place_in (Plain.numbers m.trials) n)) (trials-are ∙ sym numbers-many) ∙ new-place (Plain.numbers m.trials) n
 
   counts-are : (b : Bool) → s.discovered ≡ b
-      → refusal_of (count_refusal b (discovers (first_in s.first) n) s.n_dims closes (place_of s n) s.n s.n_trials) ≡ refusal_on (size_in b s.n) m n row
+      → refusal_of (count_refusal b (discovers s.first n) s.n_dims closes (place_of s n) s.n s.n_trials) ≡ refusal_on (size_in b s.n) m n row
   unfolding count_refusal refusal_on view
   counts-are true q =
       if-number (not closes && (leb s.n_trials (place_of s n) && leb (s.n + 64) s.n_trials)) ExtraTrials
       ∙ (λ i. refuse_if (sym (no_row closes (take s.n g.values)) i && (full_is i && leb (s.n + 64) (trials-are i))) 10)
   counts-are false q =
-      if-number (discovers (first_in s.first) n && leb 16 s.n_dims) Dimensions
-      ∙ ap (λ (k : ℕ). refuse_if (discovers (first_in s.first) n && leb 16 k) 9) dims-are
+      if-number (discovers s.first n && leb 16 s.n_dims) Dimensions
+      ∙ ap (λ (k : ℕ). refuse_if (discovers s.first n && leb 16 k) 9) dims-are
 
-  module _ (cl : Bool) (ec : cl ≡ closes) (place : ℕ) (ep : place ≡ place_of s n) (first : Bool) (ef : first ≡ discovers (first_in s.first) n) (counts : Verdict)
-      (en : counts ≡ count_refusal s.discovered first s.n_dims cl place s.n s.n_trials) (verdict : Verdict) (ev : verdict ≡ first_refusal d g.nan counts) where
+  module _ (cl : Bool) (ec : cl ≡ closes) (place : ℕ) (ep : place ≡ place_of s n) (first : Bool) (ef : first ≡ discovers s.first n) (counts : Result ⊤ Refusal)
+      (en : counts ≡ count_refusal s.discovered first s.n_dims cl place s.n s.n_trials) (verdict : Result ⊤ Refusal) (ev : verdict ≡ first_refusal d g.nan counts) where
     refusal_is : refusal_of verdict ≡ refusal m n d g.nan row
     unfolding first_refusal refusal view
     refusal_is =
@@ -137,32 +135,33 @@ module _ (s : State) (mm : Measured s) (e : sound_state s ≡ true) (d : Distrib
     sampled-is o q = rw (e, q)
 
     -- refused
-    pub refused : (r : Refusal) → verdict ≡ V'.Refused r → numbered (record { answer = Refused r; state = s; draws = 0 }) ≡ sampled_on s d n g.nan row
-    refused r q =
-        sym (sampled-is (some (refusal_number r)) (sym refusal_is ∙ ap refusal_of q) ∙ ap (refuse de (refusal_number r)) (sym is))
+    pub refused : (r : Refusal) (g' : Gen) → verdict ≡ Err r → numbered (sampled (Err r) g' s) ≡ sampled_on s d n g.nan row
+    refused r g' q =
+        sym (sampled-is (Some (refusal_number r)) (sym refusal_is ∙ ap refusal_of q) ∙ ap (refuse de (refusal_number r)) (sym is))
 
     -- accepted
-    module _ (q : verdict ≡ V'.Valid) where
-      unrefused : refusal m n d g.nan row ≡ none
+    module _ (q : verdict ≡ (Ok tt)) where
+      unrefused : refusal m n d g.nan row ≡ None
       unrefused = sym refusal_is ∙ ap refusal_of q
 
       no_nan : g.nan ≡ false
       unfolding refusal
       no_nan = go g.nan (judged d) (refusal_on m.size m n row) unrefused
         where
-          go : (b : Bool) (o p : Option ℕ) → or_else (or_else o (refuse_if b 8)) p ≡ none → b ≡ false
-          go true none p x = absurd (none≢some (sym x))
-          go true (some r) p x = absurd (none≢some (sym x))
+          go : (b : Bool) (o p : Option ℕ) → or_else (or_else o (refuse_if b 8)) p ≡ None → b ≡ false
+          go true None p x = absurd (none≢some (sym x))
+          go true (Some r) p x = absurd (none≢some (sym x))
           go false o p x = refl
 
-      pub acceptable : length g.values ≡ 160 → Numbers s g → Acceptable s d n cl g.values
-      acceptable long nums =
+      pub acceptable : Acceptable s d n cl g.values
+      acceptable =
           record {
+            arrays = h.arrays;
             sound = e;
             unrefused = (λ i. refusal m n d (sym no_nan i) (row_if (ec i) (take s.n g.values))) ∙ unrefused;
-            places = long;
+            places = h.places;
             closing = λ y. found s.discovered (sym ec ∙ y);
-            numbers = λ y. nums e no_nan (sym ec ∙ y);
+            numbers = λ y. h.numbers e no_nan (sym ec ∙ y);
           }
         where
           found : (b : Bool) → closes_now b s.n s.n_trials g.found ≡ true → b ≡ true
@@ -172,23 +171,17 @@ module _ (s : State) (mm : Measured s) (e : sound_state s ≡ true) (d : Distrib
       accepted-on : accept_on S m.size m n d (row_if cl (take s.n g.values)) ≡ accept_on S m.size m n d row
       accepted-on = ap (λ (b : Bool). accept_on S m.size m n d (row_if b (take s.n g.values))) ec
 
-      pub given : (a : Accepted) → taken a ≡ laid_taken S (accept_on S m.size m n d (row_if cl (take s.n g.values))) → a.ok ≡ true
-          → numbered (record { answer = Setting a.setting; state = a.state; draws = a.draws }) ≡ sampled_on s d n g.nan row
-      given a t y = sym (sampled-is none unrefused ∙ go (accept_on S m.size m n d row) (t ∙ ap (laid_taken S) accepted-on))
+      pub given : (a : Result ParamValue Refusal) (g' : Gen) (t : State) → given_ok a g' t ≡ laid_accepted S (accept_on S m.size m n d (row_if cl (take s.n g.values)))
+          → OnErr a (t ≡ s) → numbered (sampled a g' t) ≡ sampled_on s d n g.nan row
+      given a g' t e k = go a (accept_on S m.size m n d row) (e ∙ ap (laid_accepted S) accepted-on) k ∙ sym (sampled-is None unrefused)
         where
-          go : (o : Option (Taken de)) → taken a ≡ laid_taken S o → laid_result S (outcome de m none o) ≡ numbered (record { answer = Setting a.setting; state = a.state; draws = a.draws })
-          go none x = absurd (none≢some (sym (sym (ap (λ (b : Bool). cond b (some a) none) y) ∙ x)))
-          go (some k) x = ap (λ (z : Accepted). numbered (record { answer = Setting z.setting; state = z.state; draws = z.draws })) (sym (some_inj (sym (ap (λ (b : Bool). cond b (some a) none) y) ∙ x)))
-
-      pub missing : (a : Accepted) → taken a ≡ laid_taken S (accept_on S m.size m n d (row_if cl (take s.n g.values))) → a.ok ≡ false
-          → numbered (record { answer = Refused EntryNan; state = s; draws = 0 }) ≡ sampled_on s d n g.nan row
-      missing a t y = sym (sampled-is none unrefused ∙ go (accept_on S m.size m n d row) (t ∙ ap (laid_taken S) accepted-on))
-        where
-          go : (o : Option (Taken de)) → taken a ≡ laid_taken S o → laid_result S (outcome de m none o) ≡ numbered (record { answer = Refused EntryNan; state = s; draws = 0 })
-          go none x = ap (refuse de 11) (sym is)
-          go (some k) x = absurd (none≢some (sym (ap (λ (b : Bool). cond b (some a) none) y) ∙ x))
+          go : (a : Result ParamValue Refusal) (o : Option (Taken de)) → given_ok a g' t ≡ laid_accepted S o → OnErr a (t ≡ s) → numbered (sampled a g' t) ≡ laid_result S (outcome de m None o)
+          go (Ok x) (Some y) e k = let f : record { setting = x; draws = g'.draws; state = t } ≡ laid_given S y = cc in ap (λ (z : Given). numbered (sampled (Ok z.setting) (record { word = 0; draws = z.draws }) z.state)) f
+          go (Ok x) None e k = absurd cc
+          go (Err r) None e k = let f : r ≡ EntryNan = cc in rw (f, k) (ap (refuse de 11) is)
+          go (Err r) (Some y) e k = absurd cc
 
 -- refusal 0
-pub not-sound : (s : State) (d : Distribution) (n : ℕ) (b : Bool) (o : Option (List Float)) → sound_state s ≡ false → unsound s ≡ sampled_on s d n b o
+pub not-sound : (s : State) (g : Gen) (d : Distribution) (n : ℕ) (b : Bool) (o : Option (List Float)) → sound_state s ≡ false → numbered (sampled (Err StateNotSound) g s) ≡ sampled_on s d n b o
 unfolding sampled_on
-not-sound s d n b o e = rw e
+not-sound s g d n b o e = rw e

@@ -1,5 +1,5 @@
 -- What a call asks of its history before it is scanned: the first N open trials' results, where "at least N trials are assigned".
-use Rattle.std.specs.Prelude.{ℕ, ◌-◌, ◌^◌, min, max, Bool, false, cond, List, [], ◌∷◌, leb, length, get_or, replicate}
+use Rattle.std.specs.Prelude.{ℕ, ◌-◌, ◌^◌, min, max, Bool, false, cond, fold, List, leb, length, get_or, replicate}
 use Rattle.rng_util.specs.Many.{pad_to, listed}
 use Rattle.common.specs.Bounds.{zero_f}
 use Rattle.history.specs.declared.Gathered.{Gathered}
@@ -22,15 +22,11 @@ abbrev pub numbers_rec : List ℕ → List ℕ
 numbers_rec = pad_to 160 0
 
 -- all numbers lie between these two
-unfoldable pub fold_from : (ℕ → ℕ → ℕ) → ℕ → List ℕ → ℕ
-fold_from f m [] = m
-fold_from f m (n ∷ ns) = fold_from f (f m n) ns
-
 abbrev pub least_of : List ℕ → ℕ
-least_of = fold_from min (2 ^ 64 - 1)
+least_of = fold min (2 ^ 64 - 1)
 
 abbrev pub most_of : List ℕ → ℕ
-most_of = fold_from max 0
+most_of = fold max 0
 
 -- nothing found yet
 abbrev pub wanted_of : List ℕ → Gathered

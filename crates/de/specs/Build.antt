@@ -1,15 +1,10 @@
 -- The set-up: "Set-up: F, CR, strategy, perhaps a size, and a seed, which is the generator's first word. Nothing is seeded at random."
-use Rattle.std.specs.Prelude.{ℕ, false, Float}
-use Rattle.std.proofs.Math.Option.{Option, none, some}
+use Rattle.std.specs.Prelude.{ℕ, false, Float, Option, Some, None, Result, Ok, Err, ⊤}
 use Rattle.std.specs.Float.{binary64}
 use Rattle.std.specs.Float.Ieee.{round}
 use Rattle.distribution.specs.Refusals.{refusal_number}
-use Rattle.distribution.specs.declared.Verdict.{Verdict}
-use Rattle.distribution.specs.declared.Verdict.TheVariants as Judged
 use Rattle.evolution.specs.declared.DEStrategy.{DEStrategy}
 use Rattle.evolution.specs.declared.DEStrategy.TheVariants.{Rand1}
-use Rattle.evolution.specs.declared.PopulationSize.{PopulationSize}
-use Rattle.evolution.specs.declared.PopulationSize.TheVariants.{Unset, Of}
 use Rattle.evolution.specs.declared.Setup.{Setup}
 use Rattle.ledger.specs.Words.{or_else, refuse_if}
 use Rattle.ledger.specs.State.{fresh}
@@ -17,13 +12,12 @@ use Rattle.kernel.specs.De.{de}
 use Rattle.state.specs.Setup.{factor_fails, rate_fails, size_fails, setup_verdict}
 use Rattle.state.specs.View.{laid}
 use Rattle.state.specs.declared.State.{State}
-use Rattle.de.specs.declared.build.Built.{Built}
-use Rattle.de.specs.declared.build.Built.TheVariants.{Accepted, Refused}
 use Rattle.de.specs.declared.build.DESamplerBuilder.{DESamplerBuilder}
+use Rattle.distribution.specs.declared.Refusal.{Refusal}
 
 -- ---- the builder: the Rust's options and defaults
 
-abbrev builder_of : Float → Float → DEStrategy → PopulationSize → ℕ → DESamplerBuilder
+abbrev builder_of : Float → Float → DEStrategy → Option ℕ → ℕ → DESamplerBuilder
 builder_of F CR strategy size seed =
     record { setup = record { mutation_factor = F; crossover_rate = CR; strategy = strategy; population_size = size; seed = seed } }
 
@@ -33,10 +27,10 @@ tenths n = round binary64 false n 10
 
 unfoldable pub defaults : DESamplerBuilder
 unfolding round
-defaults = builder_of (tenths 8) (tenths 9) Rand1 Unset 0
+defaults = builder_of (tenths 8) (tenths 9) Rand1 None 0
 
 abbrev pub with_size : DESamplerBuilder → ℕ → DESamplerBuilder
-with_size b n = let S = b.setup in builder_of S.mutation_factor S.crossover_rate S.strategy (Of n) S.seed
+with_size b n = let S = b.setup in builder_of S.mutation_factor S.crossover_rate S.strategy (Some n) S.seed
 
 abbrev pub with_factor : DESamplerBuilder → Float → DESamplerBuilder
 with_factor b F = let S = b.setup in builder_of F S.crossover_rate S.strategy S.population_size S.seed
@@ -52,17 +46,17 @@ with_seed b seed = let S = b.setup in builder_of S.mutation_factor S.crossover_r
 
 -- ---- refusals 1, 2, 3: "A set-up refusal hands out no state"
 
-abbrev pub built_by : Verdict → Setup → Built
-built_by Judged.Valid S = Accepted S
-built_by (Judged.Refused r) S = Refused r
+abbrev pub built_by : Result ⊤ Refusal → Setup → Result Setup Refusal
+built_by (Ok tt) S = Ok S
+built_by (Err r) S = Err r
 
-unfoldable pub built_of : DESamplerBuilder → Built
+unfoldable pub built_of : DESamplerBuilder → Result Setup Refusal
 built_of b = built_by (setup_verdict b.setup) b.setup
 
 -- the number of the refusal, if the answer is one
-abbrev pub built_refusal : Built → Option ℕ
-built_refusal (Accepted S) = none
-built_refusal (Refused r) = some (refusal_number r)
+abbrev pub built_refusal : Result Setup Refusal → Option ℕ
+built_refusal (Ok S) = None
+built_refusal (Err r) = Some (refusal_number r)
 
 -- the table's 1, 2 and 3, the first that applies
 unfoldable pub setup_refusal : Setup → Option ℕ

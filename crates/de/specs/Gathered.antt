@@ -1,13 +1,11 @@
 -- A sample call by what it reads of its history: whether refusal 8 applies, and the counted results where it closes a generation. proofs/On and
 -- proofs/Gather show that it is the call on the history.
-use Rattle.std.specs.Prelude.{ℕ, ◌+◌, Bool, true, false, not, ◌&&◌, cond, List, [], leb, Float, length, take}
-use Rattle.std.proofs.Math.Option.{Option, none, some}
-use Rattle.std.proofs.Math.ListN.{get_elem?}
+use Rattle.std.specs.Prelude.{ℕ, ◌+◌, Bool, true, false, not, ◌&&◌, cond, List, [], leb, Float, length, take, Option, Some, None, is_none, slice_get}
 use Rattle.distribution.specs.Validate.{judged}
 use Rattle.distribution.specs.declared.Distribution.{Distribution}
 use Rattle.evolution.specs.declared.Setup.{Setup}
 use Rattle.history.specs.declared.CompletedTrial.{CompletedTrial}
-use Rattle.ledger.specs.Words.{◌>>=◌, or_else, refuse_if, has, is_none}
+use Rattle.ledger.specs.Words.{◌>>=◌, or_else, refuse_if, has}
 use Rattle.ledger.specs.Kernel.{Gen}
 use Rattle.ledger.specs.State as Plain
 use Rattle.ledger.specs.Assignment.{place_in, Accepted, assign}
@@ -25,44 +23,44 @@ use Rattle.de.specs.Sample.{call_of, laid_result, unsound}
 unfoldable pub sampling_on : Setup → Plain.State de → ℕ → Distribution → Option (List Float) → Gen ℕ → Option (Accepted de)
 sampling_on S m n d row g = do
   k ← close de S m g row
-  assign de S k.out (call_of n d []) k.gen (get_elem? k.out.candidates (place_in (Plain.numbers k.out.trials) n))
+  assign de S k.out (call_of n d []) k.gen (slice_get k.out.candidates (place_in (Plain.numbers k.out.trials) n))
 
 unfoldable pub discovery_on : Setup → Bool → Plain.State de → ℕ → Distribution → Option (Accepted de)
-discovery_on S true m n d = some (discover de m (call_of n d []) (de.random (record { distribution = d }) (Plain.start_gen de m)))
+discovery_on S true m n d = Some (discover de m (call_of n d []) (de.random (record { distribution = d }) (Plain.start_gen de m)))
 discovery_on S false m n d = do
   let N = de.size_of S m.dims
   k ← de.firsts S m.dims N (Plain.start_gen de m)
-  sampling_on S (begin de m N k.out) n d none k.gen
+  sampling_on S (begin de m N k.out) n d None k.gen
 
 unfoldable pub refusal_on : Option ℕ → Plain.State de → ℕ → Option (List Float) → Option ℕ
-refusal_on none m n row = refuse_if (discovers m.first n && leb 16 (length m.dims)) 9
-refusal_on (some N) m n row = refuse_if (is_none row && (not (has (Plain.numbers m.trials) n) && leb (N + 64) (length m.trials))) 10
+refusal_on None m n row = refuse_if (discovers m.first n && leb 16 (length m.dims)) 9
+refusal_on (Some N) m n row = refuse_if (is_none row && (not (has (Plain.numbers m.trials) n) && leb (N + 64) (length m.trials))) 10
 
 unfoldable pub accept_on : Setup → Option ℕ → Plain.State de → ℕ → Distribution → Option (List Float) → Option (Accepted de)
-accept_on S none m n d row = discovery_on S (discovers m.first n) m n d
-accept_on S (some N) m n d row = sampling_on S m n d row (Plain.start_gen de m)
+accept_on S None m n d row = discovery_on S (discovers m.first n) m n d
+accept_on S (Some N) m n d row = sampling_on S m n d row (Plain.start_gen de m)
 
 -- the first of the refusals 4 to 10
 unfoldable pub refusal : Plain.State de → ℕ → Distribution → Bool → Option (List Float) → Option ℕ
 refusal m n d bad row = or_else (or_else (judged d) (refuse_if bad 8)) (refusal_on m.size m n row)
 
-unfoldable pub step_on : Setup → Plain.State de → ℕ → Distribution → Bool → Option (List Float) → Plain.Result de (Plain.State de)
+unfoldable pub step_on : Setup → Plain.State de → ℕ → Distribution → Bool → Option (List Float) → Plain.Returned de (Plain.State de)
 step_on S m n d bad row = outcome de m (refusal m n d bad row) (accept_on S m.size m n d row)
 
-unfoldable pub sampled_on : State → Distribution → ℕ → Bool → Option (List Float) → Plain.Result de State
+unfoldable pub sampled_on : State → Distribution → ℕ → Bool → Option (List Float) → Plain.Returned de State
 sampled_on s d n bad row = cond (sound_state s) (laid_result s.setup (step_on s.setup (view s) n d bad row)) (unsound s)
 
 -- ---- the counted results, as the history has them and as a scan gathers them
 
 -- the ledger's: nothing before discovery ends
 abbrev pub row_for : Option ℕ → Plain.State de → List CompletedTrial → Option (List Float)
-row_for none m h = none
-row_for (some N) m h = counted de N (Plain.numbers m.trials) h
+row_for None m h = None
+row_for (Some N) m h = counted de N (Plain.numbers m.trials) h
 
 -- the row, or nothing
 abbrev pub row_if : Bool → List Float → Option (List Float)
-row_if true vs = some vs
-row_if false vs = none
+row_if true vs = Some vs
+row_if false vs = None
 
 -- the results that are counted, if the generation closes: the first n of vs
 abbrev pub row_in : State → List Bool → List Float → Option (List Float)

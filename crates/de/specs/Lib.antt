@@ -7,5 +7,4 @@ pub mod Ask
 pub mod Whole
 pub mod Program
 pub mod Refusing
-pub mod Plainly
 pub mod Ceiling

@@ -1,213 +1,130 @@
 // The sample call (sampler/de.rs, `sample`): refusals first, then discovery, closing and assignment.
-ghost use Rattle.std.specs.Prelude.{◌≡◌, ◌≤◌, take};
-ghost use Rattle.de.specs.Answer.{numbered};
+ghost use Rattle.std.specs.Prelude.{◌≡◌, ◌≤◌, take, OnErr};
+ghost use Rattle.assignment.specs.Raw.{given_ok, start_of};
+ghost use Rattle.assignment.specs.Laid.{laid_accepted};
+ghost use Rattle.de.specs.Answer.{numbered, sampled};
 ghost use Rattle.de.specs.Gathered.{accept_on, sampled_on, row_if, row_in};
 ghost use Rattle.de.specs.Refusing.{count_refusal, first_refusal};
 ghost use Rattle.de.specs.Sample.{sample_of};
-ghost use Rattle.de.specs.Whole.{Acceptable, Numbers, taken, laid_taken};
+ghost use Rattle.de.specs.Whole.{Acceptable, Handed};
 ghost use Rattle.history.specs.Scan.{trials_of};
-ghost use Rattle.state.specs.View.{view, first_in};
-ghost use Rattle.ledger.specs.Sample.{discovers};
+ghost use Rattle.state.specs.View.{view};
 
-use crate::ask::{ask, ask_state};
-use crate::plain::{plain_place, sample_plain};
-use crate::{Answer, Sampled};
+use crate::Sampled;
+use crate::ask::ask;
 use assignment::discovery::{discovers, finalize_discovery, sample_discovery};
 use assignment::places::place_of;
-use assignment::{Accepted, sample_active};
+use assignment::sample_active;
 use closing::{close, closes_now};
 use distribution::validate::validate;
-use distribution::{Distribution, ParamValue, Refusal, Verdict};
+use distribution::{Distribution, ParamValue, Refusal};
 use history::{CompletedTrial, Gathered, gather, gather_slices};
 use rng_util::Gen;
 use state::State;
-use state::sound::is_sound;
 
 // Of the refusals 9 and 10, the one that applies: a 17th dimension of the first trial, or a 65th extra.
 #[tactic(auto, unfolding(crate::specs::Refusing::count_refusal))]
 fn count_refusal(
-    discovered: bool,
+    state: &State,
     of_discovery: bool,
-    n_dims: usize,
     closes: bool,
     place: usize,
-    n: usize,
-    n_trials: usize,
-) -> Verdict
-    requires { n ≤ 160 }
-    ensures { result ≡ count_refusal discovered of_discovery n_dims closes place n n_trials }
+) -> Result<(), Refusal>
+    requires { state.now.n ≤ 160 }
+    ensures { result ≡ count_refusal state.now.discovered of_discovery state.now.n_dims closes place state.now.n state.now.n_trials }
 {
-    if discovered {
-        if closes {
-            return Verdict::Valid;
+    if state.discovered {
+        if !closes && state.n_trials <= place && state.n + 64 <= state.n_trials {
+            return Err(Refusal::ExtraTrials);
         }
-        if place < n_trials {
-            return Verdict::Valid;
-        }
-        if n + 64 <= n_trials {
-            return Verdict::Refused(Refusal::ExtraTrials);
-        }
-        return Verdict::Valid;
+    } else if of_discovery && 16 <= state.n_dims {
+        return Err(Refusal::Dimensions);
     }
-    if of_discovery {
-        if 16 <= n_dims {
-            return Verdict::Refused(Refusal::Dimensions);
-        }
-        return Verdict::Valid;
-    }
-    Verdict::Valid
+    Ok(())
 }
 
 // The first of the refusals 4 to 10.
 #[tactic(auto, unfolding(crate::specs::Refusing::first_refusal))]
-pub fn refusal_of(d: Distribution, nan: bool, counts: Verdict) -> Verdict
+pub fn refusal_of(d: Distribution, nan: bool, counts: Result<(), Refusal>) -> Result<(), Refusal>
     ensures { result ≡ first_refusal d nan counts }
 {
-    let judged = validate(d);
-    match judged {
-        Verdict::Refused(r) => Verdict::Refused(r),
-        Verdict::Valid => {
-            if nan {
-                return Verdict::Refused(Refusal::HistoryNan);
-            }
-            counts
-        }
+    validate(d)?;
+    if nan {
+        return Err(Refusal::HistoryNan);
     }
+    counts
 }
 
-// A call that no refusal of 0 and 4 to 10 stops. Where it is not ok, refusal 11 is for it.
-fn accept(state: State, d: Distribution, trial: u64, closes: bool, results: [f64; 160]) -> Accepted
-    requires { Acceptable state d trial closes results }
-    ensures { taken result ≡ laid_taken state.setup (accept_on state.setup (view state).size (view state) trial d (row_if closes (take state.n results))) }
+// A call that no refusal of 0 and 4 to 10 stops: it may close a generation or end discovery first. Refusal 11 leaves the
+// state as it was.
+fn accept(
+    state: &mut State,
+    d: Distribution,
+    trial: u64,
+    closes: bool,
+    results: &[f64],
+    rng: &mut Gen,
+) -> Result<ParamValue, Refusal>
+    requires acceptable { Acceptable state.old d trial closes results.now }
+    requires begins { rng.old ≡ start_of state.old }
+    ensures made { given_ok result rng.new state.new ≡ laid_accepted state.old.setup (accept_on state.old.setup (view state.old).size (view state.old) trial d (row_if closes (take state.old.n results.now))) }
+    ensures kept { OnErr result (state.new ≡ state.old) }
 {
     if state.discovered {
         if closes {
-            let c = close(state, results);
-            let after = c.after;
-            if c.ok {
-                let s = c.state;
-                return sample_active(s, d, trial, after);
-            }
-            return Accepted {
-                ok: false,
-                setting: ParamValue::Categorical(0),
-                draws: 0,
-                state,
-            };
+            close(state, results, rng)?;
         }
-        let from = Gen {
-            word: state.word,
-            draws: 0,
-        };
-        return sample_active(state, d, trial, from);
+        return sample_active(state, d, trial, rng);
     }
-    let first = state.first;
-    if discovers(first, trial) {
-        return sample_discovery(state, d, trial);
+    if discovers(state.first, trial) {
+        return Ok(sample_discovery(state, d, trial, rng));
     }
-    let b = finalize_discovery(state);
-    let after = b.after;
-    if b.ok {
-        let s = b.state;
-        return sample_active(s, d, trial, after);
-    }
-    Accepted {
-        ok: false,
-        setting: ParamValue::Categorical(0),
-        draws: 0,
-        state,
-    }
+    finalize_discovery(state, rng)?;
+    sample_active(state, d, trial, rng)
 }
 
 // A call of any kind, given what its history has.
-fn sample_any(state: State, d: Distribution, trial: u64, g: Gathered) -> Sampled
-    requires { Numbers state g }
-    ensures { numbered result ≡ sampled_on state d trial g.nan (row_in state g.found g.values) }
+fn sample_any(
+    state: &mut State,
+    d: Distribution,
+    trial: u64,
+    g: &Gathered,
+    rng: &mut Gen,
+) -> Result<ParamValue, Refusal>
+    requires handed { Handed state.old g.now }
+    requires begins { rng.old ≡ start_of state.old }
+    ensures { numbered (sampled result rng.new state.new) ≡ sampled_on state.old d trial g.now.nan (row_in state.old g.now.found g.now.values) }
 {
-    if is_sound(state) {
-        let n = state.n;
-        let n_trials = state.n_trials;
-        let found = g.found;
-        let closes = closes_now(state.discovered, n, n_trials, found);
-        let trials = state.trials;
-        let place = place_of(trials, n_trials, trial);
-        let first = state.first;
-        let of_discovery = discovers(first, trial);
-        let counts = count_refusal(
-            state.discovered,
-            of_discovery,
-            state.n_dims,
-            closes,
-            place,
-            n,
-            n_trials,
-        );
-        let verdict = refusal_of(d, g.nan, counts);
-        match verdict {
-            Verdict::Refused(r) => {
-                return Sampled {
-                    answer: Answer::Refused(r),
-                    state,
-                    draws: 0,
-                };
-            }
-            Verdict::Valid => {
-                let results = g.values;
-                let a = accept(state, d, trial, closes, results);
-                if a.ok {
-                    let s = a.state;
-                    let setting = a.setting;
-                    return Sampled {
-                        answer: Answer::Setting(setting),
-                        state: s,
-                        draws: a.draws,
-                    };
-                }
-                return Sampled {
-                    answer: Answer::Refused(Refusal::EntryNan),
-                    state,
-                    draws: 0,
-                };
-            }
-        }
+    if !state.is_sound() {
+        return Err(Refusal::StateNotSound);
     }
-    Sampled {
-        answer: Answer::Refused(Refusal::StateNotSound),
-        state,
-        draws: 0,
-    }
+    let closes = closes_now(state.discovered, state.n, state.n_trials, &g.found);
+    let place = place_of(state.trials(), trial);
+    let of_discovery = discovers(state.first, trial);
+    let counts = count_refusal(state, of_discovery, closes, place);
+    refusal_of(d, g.nan, counts)?;
+    accept(state, d, trial, closes, &g.values, rng)
 }
 
-// The call, given what its history has. Most calls are plain: a state that is handed on is copied, and they hand on parts.
-fn sample_gathered(state: State, d: Distribution, trial: u64, g: Gathered) -> Sampled
-    requires { Numbers state g }
-    ensures { numbered result ≡ sampled_on state d trial g.nan (row_in state g.found g.values) }
+// The call, given what its history has: its answer and its draws. A refusal counts none.
+fn sample_gathered(
+    state: &mut State,
+    d: Distribution,
+    trial: u64,
+    g: &Gathered,
+) -> (Result<ParamValue, Refusal>, u64)
+    requires { Handed state.old g.now }
+    ensures { numbered (record { answer = result.0; draws = result.1; state = state.new }) ≡ sampled_on state.old d trial g.now.nan (row_in state.old g.now.found g.now.values) }
 {
-    let trials = state.trials;
-    let at = plain_place(
-        state.discovered,
-        state.n,
-        state.n_trials,
-        trials,
-        d,
-        trial,
-        g,
-    );
-    let place = at.place;
-    if at.plain {
-        if is_sound(state) {
-            let candidates = state.candidates;
-            let own = candidates[place];
-            return sample_plain(state, d, trial, place, own);
-        }
-    }
-    sample_any(state, d, trial, g)
+    let mut rng = Gen::new(state.word);
+    let answer = sample_any(state, d, trial, g, &mut rng);
+    let draws = if answer.is_ok() { rng.draws } else { 0 };
+    (answer, draws)
 }
 
-// The sample call over two plain slices, a number and a value for each entry of the history. It is `sample_gathered` on what
-// they have, written out, and takes apart what it hands back: so a plain call is one copy in and one out.
+// The sample call over two plain slices, a number and a value for each entry of the history.
 pub fn sample_slices<'a>(
-    state: State,
+    mut state: State,
     distribution: Distribution,
     trial: u64,
     numbers: &'a [u64],
@@ -215,48 +132,31 @@ pub fn sample_slices<'a>(
 ) -> Sampled
     ensures { numbered result ≡ sample_of state distribution trial (trials_of numbers.now values.now) }
 {
-    let n_trials = state.n_trials;
-    let trials = state.trials;
-    let q = ask(state.discovered, state.n, n_trials, trials);
-    let wanted = q.wanted;
-    let g = gather_slices(numbers, values, q.lo, q.hi, wanted);
-    let at = plain_place(
-        state.discovered,
-        state.n,
-        n_trials,
-        trials,
-        distribution,
-        trial,
-        g,
-    );
-    let place = at.place;
-    if at.plain {
-        if is_sound(state) {
-            let candidates = state.candidates;
-            let own = candidates[place];
-            return sample_plain(state, distribution, trial, place, own);
-        }
-    }
-    let r = sample_any(state, distribution, trial, g);
-    let answer = r.answer;
-    let s = r.state;
+    let asked = ask(&state);
+    let g = gather_slices(numbers, values, asked.lo, asked.hi, asked.wanted);
+    let (answer, draws) = sample_gathered(&mut state, distribution, trial, &g);
     Sampled {
         answer,
-        state: s,
-        draws: r.draws,
+        state,
+        draws,
     }
 }
 
 // The sample call over a slice of completed trials.
 pub fn sample(
-    state: State,
+    mut state: State,
     distribution: Distribution,
     trial: u64,
     history: &[CompletedTrial],
 ) -> Sampled
     ensures { numbered result ≡ sample_of state distribution trial history.now }
 {
-    let q = ask_state(state);
-    let g = gather(history, q.lo, q.hi, q.wanted);
-    sample_gathered(state, distribution, trial, g)
+    let asked = ask(&state);
+    let g = gather(history, asked.lo, asked.hi, asked.wanted);
+    let (answer, draws) = sample_gathered(&mut state, distribution, trial, &g);
+    Sampled {
+        answer,
+        state,
+        draws,
+    }
 }

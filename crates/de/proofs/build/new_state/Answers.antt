@@ -6,4 +6,4 @@ use Rattle.de.proofs.build.new_state.Goals as goal
 
 pub returns : goal.returns
 unfolding fresh_state laid fresh
-returns c = rw (c.blank_candidate-c.ensures, c.blank_member-m.ensures)
+returns c = rw (c.blank.ensures, c.blank_member.ensures)

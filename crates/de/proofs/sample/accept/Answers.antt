@@ -1,41 +1,86 @@
--- `accept` meets its contract: each branch is the definition's on the view (Accepting), with the tests that lead there.
-use mathlib.Core.Path.{sym, ◌∙◌}
-use Rattle.state.proofs.Measured.{measured}
+-- `accept` meets its contract: each way is the definition's on the view (Accepting), with the tests that lead there.
+use Rattle.std.proofs.Common.{◌≡◌, rules, sym, ap, ◌∙◌, Ok, Err}
+use Rattle.assignment.specs.Raw.{Given}
 use Rattle.de.proofs.Accepting as By
+use Rattle.de.proofs.sample.accept.Goals.{then-closes+in_ok-close, else-closes}
 use Rattle.de.proofs.sample.accept.Goals as goal
 
-pub close-c-requires : goal.close-c-requires
-close-c-requires c = By.close-requires c.args.state (measured c.args.state _ c.well_formed.0) c.args.d c.args.trial c.args.closes c.args.results c.requires c.if-state.true c.if-closes.true
+pub close-requires : goal.close-requires
+close-requires c =
+    let q = c.requires.acceptable in
+    let b = c.requires.begins in
+    (By.close-requires _ _ _ _ _ q _ b c.if-state.true c.if-closes.true, By.many _ _ _ _ _ q _ b c.if-state.true c.if-closes.true, By.few_draws _ _ _ _ _ q _ b)
 
+pub returns-in_err-close-clause-made : goal.returns-in_err-close-clause-made
+returns-in_err-close-clause-made c =
+    let e : c.from_residual.result ≡ Err c.in_err-close.field-0.0 = search rules in
+    rw e (By.closed-missing _ _ _ _ _ c.requires.acceptable _ c.requires.begins c.if-state.true c.if-closes.true _ c.in_err-close.ensures.made)
+
+-- the generation is open, whether one has closed or not
 pub sample_active-requires : goal.sample_active-requires
-sample_active-requires c = By.active-requires c.args.state (measured c.args.state _ c.well_formed.0) c.args.d c.args.trial c.args.closes c.args.results c.requires c.if-state.true c.if-closes.true _ c.close-c.ensures c.if-c.true
+sample_active-requires c =
+    let q = c.requires.acceptable in
+    let b = c.requires.begins in
+    let o : By.Opened _ _ _ _ _ q _ b c.if-closes.state c.if-closes.rng =
+    elim c.if-closes.branch [
+      | then-closes+in_ok-close w ↦ rw (w.state-is, w.rng-is) (By.closed-opened _ _ _ _ _ q _ b c.if-state.true w.if-closes.true _ _ w.in_ok-close.ensures.made)
+      | else-closes w ↦ rw (w.state-is, w.rng-is) (By.plain-opened _ _ _ _ _ q _ b c.if-state.true w.if-closes.false)
+    ] in
+    o.ready
 
-pub returns-then-c : goal.returns-then-c
-returns-then-c c = By.closed-returns c.args.state (measured c.args.state _ c.well_formed.0) c.args.d c.args.trial c.args.closes c.args.results c.requires c.if-state.true c.if-closes.true _ c.close-c.ensures _ c.if-c.true c.sample_active.ensures
+pub returns-then-state-clause-made : goal.returns-then-state-clause-made
+returns-then-state-clause-made c =
+    let q = c.requires.acceptable in
+    let b = c.requires.begins in
+    let o : By.Opened _ _ _ _ _ q _ b c.if-closes.state c.if-closes.rng =
+    elim c.if-closes.branch [
+      | then-closes+in_ok-close w ↦ rw (w.state-is, w.rng-is) (By.closed-opened _ _ _ _ _ q _ b c.if-state.true w.if-closes.true _ _ w.in_ok-close.ensures.made)
+      | else-closes w ↦ rw (w.state-is, w.rng-is) (By.plain-opened _ _ _ _ _ q _ b c.if-state.true w.if-closes.false)
+    ] in
+    By.served _ _ _ _ _ q _ b _ _ o _ _ _ c.sample_active.ensures.made
 
-pub returns-then-closes : goal.returns-then-closes
-returns-then-closes c = By.closed-missing c.args.state (measured c.args.state _ c.well_formed.0) c.args.d c.args.trial c.args.closes c.args.results c.requires c.if-state.true c.if-closes.true _ c.close-c.ensures c.if-c.false
-
-pub sample_active-requires-then-state : goal.sample_active-requires-then-state
-sample_active-requires-then-state c = By.plain-requires c.args.state (measured c.args.state _ c.well_formed.0) c.args.d c.args.trial c.args.closes c.args.results c.requires c.if-state.true c.if-closes.false
-
-pub returns-then-state : goal.returns-then-state
-returns-then-state c = By.plain-returns c.args.state (measured c.args.state _ c.well_formed.0) c.args.d c.args.trial c.args.closes c.args.results c.requires c.if-state.true c.if-closes.false _ c.sample_active-then-state.ensures
+pub returns-then-state-clause-kept : goal.returns-then-state-clause-kept
+returns-then-state-clause-kept c =
+    let q = c.requires.acceptable in
+    let b = c.requires.begins in
+    let o : By.Opened _ _ _ _ _ q _ b c.if-closes.state c.if-closes.rng =
+    elim c.if-closes.branch [
+      | then-closes+in_ok-close w ↦ rw (w.state-is, w.rng-is) (By.closed-opened _ _ _ _ _ q _ b c.if-state.true w.if-closes.true _ _ w.in_ok-close.ensures.made)
+      | else-closes w ↦ rw (w.state-is, w.rng-is) (By.plain-opened _ _ _ _ _ q _ b c.if-state.true w.if-closes.false)
+    ] in
+    By.served_kept _ _ _ _ _ q _ b _ _ o _ _ _ c.sample_active.ensures.made c.sample_active.ensures.kept
 
 pub sample_discovery-requires : goal.sample_discovery-requires
-sample_discovery-requires c = (By.discovery-requires c.args.state (measured c.args.state _ c.well_formed.0) c.args.d c.args.trial c.args.closes c.args.results c.requires c.if-state.false (sym c.discovers.ensures ∙ c.if-discovers.true), By.valid c.args.state (measured c.args.state _ c.well_formed.0) c.args.d c.args.trial c.args.closes c.args.results c.requires)
+sample_discovery-requires c = By.discovery-requires _ _ _ _ _ c.requires.acceptable _ c.requires.begins c.if-state.false (sym c.discovers.ensures ∙ c.if-discovers.true)
 
-pub returns-then-discovers : goal.returns-then-discovers
-returns-then-discovers c = By.discovery-returns c.args.state (measured c.args.state _ c.well_formed.0) c.args.d c.args.trial c.args.closes c.args.results c.requires c.if-state.false (sym c.discovers.ensures ∙ c.if-discovers.true) _ c.sample_discovery.ensures
+pub returns-then-discovers-clause-made : goal.returns-then-discovers-clause-made
+returns-then-discovers-clause-made c =
+    ap (λ (a : Given). Ok a) c.sample_discovery.ensures
+    ∙ By.discovery-returns _ _ _ _ _ c.requires.acceptable _ c.requires.begins c.if-state.false (sym c.discovers.ensures ∙ c.if-discovers.true)
 
-pub finalize_discovery-b-requires : goal.finalize_discovery-b-requires
-finalize_discovery-b-requires c = By.begin-requires c.args.state (measured c.args.state _ c.well_formed.0) c.args.d c.args.trial c.args.closes c.args.results c.requires c.if-state.false (sym c.discovers.ensures ∙ c.if-discovers.false)
+pub finalize_discovery-requires : goal.finalize_discovery-requires
+finalize_discovery-requires c = By.begin-requires _ _ _ _ _ c.requires.acceptable _ c.requires.begins c.if-state.false (sym c.discovers.ensures ∙ c.if-discovers.false)
 
-pub sample_active-requires-then-b : goal.sample_active-requires-then-b
-sample_active-requires-then-b c = By.begun-requires c.args.state (measured c.args.state _ c.well_formed.0) c.args.d c.args.trial c.args.closes c.args.results c.requires c.if-state.false (sym c.discovers.ensures ∙ c.if-discovers.false) _ c.finalize_discovery-b.ensures c.if-b.true
+pub returns-in_err-finalize_discovery-clause-made : goal.returns-in_err-finalize_discovery-clause-made
+returns-in_err-finalize_discovery-clause-made c =
+    let e : c.from_residual-in_err-finalize_discovery.result ≡ Err c.in_err-finalize_discovery.field-0.0 = search rules in
+    rw e (By.begun-missing _ _ _ _ _ c.requires.acceptable _ c.requires.begins c.if-state.false (sym c.discovers.ensures ∙ c.if-discovers.false) _ c.in_err-finalize_discovery.ensures.made)
 
-pub returns-then-b : goal.returns-then-b
-returns-then-b c = By.begun-returns c.args.state (measured c.args.state _ c.well_formed.0) c.args.d c.args.trial c.args.closes c.args.results c.requires c.if-state.false (sym c.discovers.ensures ∙ c.if-discovers.false) _ c.finalize_discovery-b.ensures _ c.if-b.true c.sample_active-then-b.ensures
+pub sample_active-requires-2 : goal.sample_active-requires-2
+sample_active-requires-2 c =
+    let o = By.begun-opened _ _ _ _ _ c.requires.acceptable _ c.requires.begins c.if-state.false (sym c.discovers.ensures ∙ c.if-discovers.false) _ _ c.in_ok-finalize_discovery.ensures.made in
+    o.ready
 
-pub returns : goal.returns
-returns c = By.begun-missing c.args.state (measured c.args.state _ c.well_formed.0) c.args.d c.args.trial c.args.closes c.args.results c.requires c.if-state.false (sym c.discovers.ensures ∙ c.if-discovers.false) _ c.finalize_discovery-b.ensures c.if-b.false
+pub returns-clause-made : goal.returns-clause-made
+returns-clause-made c =
+    let q = c.requires.acceptable in
+    let b = c.requires.begins in
+    let o = By.begun-opened _ _ _ _ _ q _ b c.if-state.false (sym c.discovers.ensures ∙ c.if-discovers.false) _ _ c.in_ok-finalize_discovery.ensures.made in
+    By.served _ _ _ _ _ q _ b _ _ o _ _ _ c.sample_active-2.ensures.made
+
+pub returns-clause-kept : goal.returns-clause-kept
+returns-clause-kept c =
+    let q = c.requires.acceptable in
+    let b = c.requires.begins in
+    let o = By.begun-opened _ _ _ _ _ q _ b c.if-state.false (sym c.discovers.ensures ∙ c.if-discovers.false) _ _ c.in_ok-finalize_discovery.ensures.made in
+    By.served_kept _ _ _ _ _ q _ b _ _ o _ _ _ c.sample_active-2.ensures.made c.sample_active-2.ensures.kept

@@ -1,11 +1,13 @@
 -- `sample` meets its contract: ask, gather, and answer; that the call on what is gathered is the call on the history: Scanned.
-use mathlib.Core.Path.{◌∙◌}
+use Rattle.std.proofs.Common.{◌∙◌, rules}
 use Rattle.state.proofs.Measured.{measured}
 use Rattle.de.proofs.Scanned as By
 use Rattle.de.proofs.sample.sample.Goals as goal
 
-pub sample_gathered-requires : goal.sample_gathered-requires
-sample_gathered-requires c = By.numbers c.args.state (measured c.args.state _ c.well_formed.0) _ _ c.ask_state-q.ensures _ c.gather-g.ensures
+pub sample_gathered-answer-requires : goal.sample_gathered-answer-requires
+sample_gathered-answer-requires c =
+    let mm = measured c.args.state _ c.well_formed.0 in
+    record { arrays = mm; places = search rules; numbers = By.numbers c.args.state mm _ _ c.ask-asked.ensures _ c.gather-g.ensures }
 
 pub returns : goal.returns
-returns c = c.sample_gathered.ensures ∙ By.called c.args.state (measured c.args.state _ c.well_formed.0) _ _ c.ask_state-q.ensures _ c.gather-g.ensures _ _
+returns c = c.sample_gathered-answer.ensures ∙ By.called c.args.state (measured c.args.state _ c.well_formed.0) _ _ c.ask-asked.ensures _ c.gather-g.ensures _ _

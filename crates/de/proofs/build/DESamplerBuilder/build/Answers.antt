@@ -1,18 +1,13 @@
 -- `build` meets its contract: by what `validate_setup` answers.
-use mathlib.Core.Path.{sym, ap, ◌∙◌}
-use Rattle.distribution.specs.declared.Verdict.{Verdict}
-use Rattle.de.specs.Build.{built_by, built_of}
+use Rattle.std.proofs.Common.{rules}
+use Rattle.de.specs.Build.{built_of}
 use Rattle.de.proofs.Numbers.{built-meets}
 use Rattle.de.proofs.build.DESamplerBuilder.build.Goals as goal
 
-pub returns-in-Refused : goal.returns-in-Refused
+pub returns-in_err-validate_setup : goal.returns-in_err-validate_setup
 unfolding built_of
-returns-in-Refused c =
-    let b = c.args.self in
-    built-meets b _ (sym (ap (λ (v : Verdict). built_by v b.setup) (sym c.validate_setup-verdict.ensures ∙ c.in-Refused.is)))
+returns-in_err-validate_setup c = built-meets c.args.self _ (search rules)
 
-pub returns-in-Valid : goal.returns-in-Valid
+pub returns : goal.returns
 unfolding built_of
-returns-in-Valid c =
-    let b = c.args.self in
-    built-meets b _ (sym (ap (λ (v : Verdict). built_by v b.setup) (sym c.validate_setup-verdict.ensures ∙ c.in-Valid.is)))
+returns c = built-meets c.args.self _ (search rules)
