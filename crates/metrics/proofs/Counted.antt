@@ -7,13 +7,13 @@ use mathlib.Core.List.{List, [], ◌∷◌}
 use native.Mathlib.Omega.{arith}
 use lib.Dec.{eqb}
 use lib.ListN.{length}
+use Rattle.std.specs.Prelude.{Option, Some, None}
 use Rattle.history.specs.declared.CompletedTrial.{CompletedTrial}
-use Rattle.metrics.specs.Pieces.{onto, cut_at}
+use Rattle.std.specs.List.{onto_first}
+use Rattle.metrics.specs.Pieces.{cut_at}
 use Rattle.metrics.specs.Line.{line_of}
 use Rattle.metrics.specs.Grammar.{line_feeds}
 use Rattle.metrics.specs.Export.{Export, well, malformed, after, lines_from, export_of}
-use Rattle.metrics.specs.declared.line.LineRead.{LineRead}
-use Rattle.metrics.specs.declared.line.LineRead.TheVariants as Line
 
 -- one piece more than there are line feeds
 piece-count : (s : List ℕ) → length (cut_at (code "\n") s) ≡ line_feeds s + 1
@@ -21,7 +21,7 @@ unfolding cut_at line_feeds
 piece-count [] = refl
 piece-count (b ∷ bs) = go (eqb b (code "\n")) (cut_at (code "\n") bs) (piece-count bs)
   where
-    go : (t : Bool) (ps : List (List ℕ)) → length ps ≡ line_feeds bs + 1 → length (cond t ([] ∷ ps) (onto b ps)) ≡ cond t (line_feeds bs + 1) (line_feeds bs) + 1
+    go : (t : Bool) (ps : List (List ℕ)) → length ps ≡ line_feeds bs + 1 → length (cond t ([] ∷ ps) (onto_first b ps)) ≡ cond t (line_feeds bs + 1) (line_feeds bs) + 1
     go true ps e = ap suc e ∙ omega arith
     go false (p ∷ ps) e = e
     go false [] e = absurd (omega arith)
@@ -34,16 +34,16 @@ entry-count k (last ∷ []) ts n e = go (eqb (length last) 0) e
   where
     go : (t : Bool) → cond t (well []) (malformed k) ≡ well ts → 1 ≡ length ts + 1
     go true h = let none : ◌≡◌ {A = List CompletedTrial} [] ts = cc in ap (λ (us : List CompletedTrial). length us + 1) none
-    go false h = let z : ◌≡◌ {A = ℕ} 0 1 = cc in absurd (omega arith)
-entry-count k (line ∷ next ∷ more) ts n e = go (line_of line) (lines_from (suc k) (next ∷ more)) (λ us. entry-count (suc k) (next ∷ more) us (λ h. let z : ◌≡◌ {A = ℕ} 0 1 = cc in omega arith)) e
+    go false h = cc
+entry-count k (line ∷ next ∷ more) ts n e = go (line_of line) (lines_from (suc k) (next ∷ more)) (λ us. entry-count (suc k) (next ∷ more) us (λ h. cc)) e
   where
-    go : (r : LineRead) (x : Export) → ((us : List CompletedTrial) → x ≡ well us → length (next ∷ more) ≡ length us + 1) → after k r x ≡ well ts → length (line ∷ next ∷ more) ≡ length ts + 1
-    go (Line.Entry t) (well us) h q =
+    go : (r : Option CompletedTrial) (x : Export) → ((us : List CompletedTrial) → x ≡ well us → length (next ∷ more) ≡ length us + 1) → after k r x ≡ well ts → length (line ∷ next ∷ more) ≡ length ts + 1
+    go (Some t) (well us) h q =
         let all : t ∷ us ≡ ts = cc in
         let count : suc (length us) ≡ length ts = ap (length {A = CompletedTrial}) all in
         omega (arith, h us refl, count)
-    go (Line.Entry t) (malformed m) h q = let z : ◌≡◌ {A = ℕ} 0 1 = cc in absurd (omega arith)
-    go Line.Malformed x h q = let z : ◌≡◌ {A = ℕ} 0 1 = cc in absurd (omega arith)
+    go (Some t) (malformed m) h q = cc
+    go None x h q = cc
 
 pub entries-are-line-feeds : (text : List ℕ) (ts : List CompletedTrial) → export_of text ≡ well ts → length ts ≡ line_feeds text
 unfolding export_of

@@ -9,21 +9,19 @@ use lib.IntN.{pos, negsuc}
 use lib.ListN.{replicate}
 use lib.Ieee.{Float, fin, binary64, round}
 use Rattle.history.specs.declared.CompletedTrial.{CompletedTrial}
+use Rattle.std.specs.Prelude.{Option, Some, None, Ok, Err}
 use Rattle.numbers.specs.Numbers.{digit_of, all_digits, spelt_after}
-use Rattle.numbers.specs.declared.DoubleWord.{DoubleWord}
-use Rattle.numbers.specs.declared.DoubleWord.TheVariants.{Is, Not}
 use Rattle.metrics.specs.Pieces.{cut_at, split_at}
 use Rattle.metrics.specs.Value.{decimal_of, unsigned_of, value_word}
 use Rattle.metrics.specs.Line.{trial_number, line_of}
 use Rattle.metrics.specs.Export.{Export, well, malformed, lines_from, export_of, answer_of, left_in, entry_of}
-use Rattle.metrics.specs.declared.ReadAnswer.TheVariants.{Count, Refused}
 use Rattle.metrics.specs.declared.ExportRefusal.TheVariants.{MalformedLine, ShortHistory}
 
 abbrev bytes : String → List ℕ
 bytes []ˢ = []
 bytes (c ∷ˢ text) = code c ∷ bytes text
 
-abbrev value : String → DoubleWord
+abbrev value : String → Option Float
 value text = value_word (bytes text)
 
 abbrev trial : ℕ → Float → CompletedTrial
@@ -37,21 +35,21 @@ minus_zero = fin true 0 (pos 0)
 
 -- 1.5 is 3 / 2; leading zeros; fifteen digits; zero keeps its minus
 accepted :
-    (value "1.5" ≡ Is (fin false 3 (negsuc 0)))
-    × (value "007" ≡ Is (fin false 7 (pos 0)))
-    × (value "999999999999999" ≡ Is (fin false 999999999999999 (pos 0)))
-    × (value "0" ≡ Is (fin false 0 (pos 0)))
-    × (value "-0" ≡ Is minus_zero)
-    × (value "-0.0" ≡ Is minus_zero)
+    (value "1.5" ≡ Some (fin false 3 (negsuc 0)))
+    × (value "007" ≡ Some (fin false 7 (pos 0)))
+    × (value "999999999999999" ≡ Some (fin false 999999999999999 (pos 0)))
+    × (value "0" ≡ Some (fin false 0 (pos 0)))
+    × (value "-0" ≡ Some minus_zero)
+    × (value "-0.0" ≡ Some minus_zero)
 unfolding value_word unsigned_of split_at decimal_of all_digits spelt_after digit_of round
 accepted = (refl, refl, refl, refl, refl, refl)
 
 -- 1 / 10^14 has fifteen digits, 1 / 10^15 sixteen
-smallest : (value "0.00000000000001" ≡ Is (round binary64 false 1 (10 ^ 14))) × (value "0.000000000000001" ≡ Not)
+smallest : (value "0.00000000000001" ≡ Some (round binary64 false 1 (10 ^ 14))) × (value "0.000000000000001" ≡ None)
 unfolding value_word unsigned_of split_at decimal_of all_digits spelt_after digit_of round
 smallest = (refl, refl)
 
-refused : map value ("" ∷ "-" ∷ ".5" ∷ "5." ∷ "1.2.3" ∷ "+1" ∷ "1e5" ∷ " 1" ∷ "--1" ∷ "1234567890123456" ∷ []) ≡ replicate 10 Not
+refused : map value ("" ∷ "-" ∷ ".5" ∷ "5." ∷ "1.2.3" ∷ "+1" ∷ "1e5" ∷ " 1" ∷ "--1" ∷ "1234567890123456" ∷ []) ≡ replicate 10 None
 unfolding value_word unsigned_of split_at decimal_of all_digits spelt_after digit_of
 refused = refl
 
@@ -78,9 +76,9 @@ not-read = (refl, refl, refl, refl, refl)
 
 -- 14 before 15
 answers :
-    (answer_of 0 (export "7,1\nx\n") ≡ Refused (MalformedLine 2))
-    × (answer_of 0 (export "7,1\n") ≡ Refused ShortHistory)
-    × (answer_of 2 (export "7,1\n") ≡ Count 1)
+    (answer_of 0 (export "7,1\nx\n") ≡ Err (MalformedLine 2))
+    × (answer_of 0 (export "7,1\n") ≡ Err ShortHistory)
+    × (answer_of 2 (export "7,1\n") ≡ Ok 1)
 unfolding answer_of export_of lines_from cut_at line_of trial_number value_word unsigned_of split_at decimal_of all_digits spelt_after digit_of round
 answers = (refl, refl, refl)
 

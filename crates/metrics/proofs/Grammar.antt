@@ -9,13 +9,12 @@ use native.Mathlib.Omega.{arith}
 use lib.Dec.{eqb}
 use lib.ListN.{length}
 use borrow.Author.Tests.{eqb-true}
+use Rattle.std.specs.Prelude.{Option, Some, None}
 use Rattle.history.specs.declared.CompletedTrial.{CompletedTrial}
 use Rattle.metrics.specs.Pieces.{cut_at}
 use Rattle.metrics.specs.Line.{line_of}
 use Rattle.metrics.specs.Grammar.{Parts, Lawful, AllLawful, body_text, line_text, text_of, meant, NoLine, Accepted, MalformedAt}
 use Rattle.metrics.specs.Export.{Export, well, malformed, after, lines_from, export_of}
-use Rattle.metrics.specs.declared.line.LineRead.{LineRead}
-use Rattle.metrics.specs.declared.line.LineRead.TheVariants as Line
 use Rattle.metrics.proofs.Joined.{cut-clear, CutBack, cut-back}
 use Rattle.metrics.proofs.LineParts.{line_taken, line_clear, line-back}
 use Rattle.metrics.proofs.Lines.{LF, lines_of}
@@ -25,17 +24,17 @@ line_before : (p : Parts) (rest : List ℕ) → line_text p ++ rest ≡ body_tex
 line_before p rest = append_assoc (body_text p) (LF ∷ []) rest
 
 -- ---- lines of the grammar, read
-line_read : (k : ℕ) (p : Parts) (rest : List ℕ) → Lawful p → lines_from k (cut_at LF (line_text p ++ rest)) ≡ after k (Line.Entry (meant p)) (lines_from (suc k) (cut_at LF rest))
+line_read : (k : ℕ) (p : Parts) (rest : List ℕ) → Lawful p → lines_from k (cut_at LF (line_text p ++ rest)) ≡ after k (Some (meant p)) (lines_from (suc k) (cut_at LF rest))
 line_read k p rest l =
     ap (λ (s : List ℕ). lines_from k (cut_at LF s)) (line_before p rest) ∙ ap (lines_from k) (cut-clear LF (body_text p) rest (line_clear p l))
-    ∙ lines_of k (body_text p) rest ∙ ap (λ (r : LineRead). after k r (lines_from (suc k) (cut_at LF rest))) (line_taken p l)
+    ∙ lines_of k (body_text p) rest ∙ ap (λ (r : Option CompletedTrial). after k r (lines_from (suc k) (cut_at LF rest))) (line_taken p l)
 
 -- what the lines behind are, with entries in front
 abbrev behind : List CompletedTrial → Export → Export
 behind ts (well us) = well (ts ++ us)
 behind ts (malformed k) = malformed k
 
-behind_more : (k : ℕ) (t : CompletedTrial) (ts : List CompletedTrial) (x : Export) → after k (Line.Entry t) (behind ts x) ≡ behind (t ∷ ts) x
+behind_more : (k : ℕ) (t : CompletedTrial) (ts : List CompletedTrial) (x : Export) → after k (Some t) (behind ts x) ≡ behind (t ∷ ts) x
 behind_more k t ts (well us) = refl
 behind_more k t ts (malformed n) = refl
 
@@ -48,7 +47,7 @@ lines-read k [] rest l = none (lines_from k (cut_at LF rest)) ∙ ap (λ (n : �
 lines-read k (p ∷ ps) rest l =
     let n : length ps + suc k ≡ suc (length ps) + k = omega arith in
     ap (λ (s : List ℕ). lines_from k (cut_at LF s)) (append_assoc (line_text p) (text_of ps) rest) ∙ line_read k p (text_of ps ++ rest) l.0
-    ∙ ap (after k (Line.Entry (meant p))) (lines-read (suc k) ps rest l.1)
+    ∙ ap (after k (Some (meant p))) (lines-read (suc k) ps rest l.1)
     ∙ behind_more k (meant p) (map meant ps) (lines_from (length ps + suc k) (cut_at LF rest))
     ∙ ap (λ (m : ℕ). behind (meant p ∷ map meant ps) (lines_from m (cut_at LF rest))) n
 
@@ -57,11 +56,11 @@ no-line-read : (k : ℕ) (rest : List ℕ) → NoLine rest → lines_from k (cut
 unfolding lines_from
 no-line-read k rest n = go (cut_at LF rest) (cut-back LF rest)
   where
-    by-line : (r : LineRead) (line t : List ℕ) (x : Export) → line_of line ≡ r → rest ≡ line ++ LF ∷ t → after k r x ≡ malformed k
-    by-line (Line.Entry e) line t x q b =
+    by-line : (r : Option CompletedTrial) (line t : List ℕ) (x : Export) → line_of line ≡ r → rest ≡ line ++ LF ∷ t → after k r x ≡ malformed k
+    by-line (Some e) line t x q b =
         let p = line-back line e q in
         absurd (n.no_line p.0 t p.1.0 (b ∙ ap (λ (s : List ℕ). s ++ LF ∷ t) p.1.1 ∙ sym (line_before p.0 t)))
-    by-line Line.Malformed line t x q b = refl
+    by-line None line t x q b = refl
 
     last : (piece : List ℕ) (t : Bool) → eqb (length piece) 0 ≡ t → rest ≡ piece → cond t (well []) (malformed k) ≡ malformed k
     last [] t z b = absurd (n.something b)
@@ -99,7 +98,7 @@ read-last k s (c ∷ cs) q e = go (eqb (length (c ∷ cs)) 0) refl
         tt,
         refl,
         record {
-          something = λ h. let y : ◌≡◌ {A = ℕ} 0 1 = cc in absurd (omega arith);
+          something = λ h. cc;
           no_line = λ p rest l h. let b = begins s p rest l h in some-piece rest (let none : cut_at LF rest ≡ [] = cc in none);
         },
         omega arith,
@@ -107,8 +106,8 @@ read-last k s (c ∷ cs) q e = go (eqb (length (c ∷ cs)) 0) refl
     )
 
 read-line : (k : ℕ) (s line t : List ℕ) (next : List ℕ) (more : List (List ℕ)) → cut_at LF s ≡ line ∷ next ∷ more → s ≡ line ++ LF ∷ t
-    → (r : LineRead) → line_of line ≡ r → (x : Export) → Read (suc k) t x → Read k s (after k r x)
-read-line k s line t next more q e (Line.Entry d) r (well ts) w =
+    → (r : Option CompletedTrial) → line_of line ≡ r → (x : Export) → Read (suc k) t x → Read k s (after k r x)
+read-line k s line t next more q e (Some d) r (well ts) w =
     let p = line-back line d r in (
       p.0 ∷ w.0,
       (
@@ -117,7 +116,7 @@ read-line k s line t next more q e (Line.Entry d) r (well ts) w =
         ap (λ (y : CompletedTrial). y ∷ ts) p.1.2 ∙ ap (λ (y : List CompletedTrial). meant p.0 ∷ y) w.1.2,
       ),
     )
-read-line k s line t next more q e (Line.Entry d) r (malformed n) w =
+read-line k s line t next more q e (Some d) r (malformed n) w =
     let p = line-back line d r in (
       p.0 ∷ w.0,
       w.1,
@@ -129,7 +128,7 @@ read-line k s line t next more q e (Line.Entry d) r (malformed n) w =
         omega (arith, w.2.3),
       ),
     )
-read-line k s line t next more q e Line.Malformed r x w = (
+read-line k s line t next more q e None r x w = (
   [],
   s,
   (
@@ -140,16 +139,16 @@ read-line k s line t next more q e Line.Malformed r x w = (
       no_line = λ p rest l h.
           let b = begins s p rest l h in
           let same : line ≡ body_text p = cc in
-          let two : Line.Malformed ≡ Line.Entry (meant p) = sym r ∙ ap line_of same ∙ line_taken p l in
-          let z : ◌≡◌ {A = ℕ} 0 1 = cc in omega arith;
+          let two : None ≡ Some (meant p) = sym r ∙ ap line_of same ∙ line_taken p l in
+          cc;
     },
     omega arith,
   ),
 )
   where
     some-text : (y : List ℕ) → y ++ LF ∷ t ≡ [] → ⊥
-    some-text [] h = let z : ◌≡◌ {A = ℕ} 0 1 = cc in omega arith
-    some-text (c ∷ cs) h = let z : ◌≡◌ {A = ℕ} 0 1 = cc in omega arith
+    some-text [] h = cc
+    some-text (c ∷ cs) h = cc
 
 read_back : (k : ℕ) (pieces : List (List ℕ)) (s : List ℕ) → cut_at LF s ≡ pieces → Read k s (lines_from k pieces)
 unfolding lines_from

@@ -1,13 +1,14 @@
 -- A text that was cut at a separator, put together again. Idea: by the text's bytes; `Clear` says that none of them is the separator.
-use Prim.Native.Nat.{ℕ, ◌≤◌, ◌<◌}
-use mathlib.Core.Path.{◌≡◌, refl, sym, ap, subst}
+use Prim.Native.Nat.{ℕ}
+use mathlib.Core.Path.{◌∙◌, ◌≡◌, refl, sym, ap}
 use mathlib.Core.Bool.{Bool, true, false, cond}
 use mathlib.Core.List.{List, [], ◌∷◌, ◌++◌}
-use native.Mathlib.Omega.{arith}
-use lib.Dec.{eqb, ltb}
-use borrow.Author.Tests.{eq-eqb, eqb-true, ltb-true}
-use Rattle.numbers.specs.Numbers.{digit_of, all_digits}
-use Rattle.metrics.specs.Pieces.{onto, cut_at, Halves, whole, halves, onto_halves, split_at}
+use lib.Dec.{eqb}
+use borrow.Author.Tests.{eq-eqb, eqb-true}
+use Rattle.std.specs.Prelude.{None, is_some}
+use Rattle.numbers.specs.Numbers.{digit_of, digit_in, all_digits}
+use Rattle.std.specs.List.{onto_first}
+use Rattle.metrics.specs.Pieces.{cut_at, Halves, whole, halves, onto_halves, split_at}
 use Rattle.metrics.proofs.Decimals.{and_left, and_right}
 
 -- no byte of the text is the separator
@@ -20,18 +21,17 @@ clear-append sep [] t c d = d
 clear-append sep (b ∷ s) t c d = (c.0, clear-append sep s t c.1 d)
 
 -- what is no digit stands nowhere among digits
-pub digits-clear : (sep : ℕ) → 10 ≤ digit_of sep → (s : List ℕ) → all_digits 10 s ≡ true → Clear sep s
+pub digits-clear : (sep : ℕ) → digit_of sep ≡ None → (s : List ℕ) → all_digits 10 s ≡ true → Clear sep s
 unfolding all_digits
 digits-clear sep h [] e = tt
-digits-clear sep h (b ∷ s) e = (other (eqb b sep) refl, digits-clear sep h s (and_right (ltb (digit_of b) 10) (all_digits 10 s) e))
+digits-clear sep h (b ∷ s) e = (other (eqb b sep) refl, digits-clear sep h s (and_right (is_some (digit_in 10 b)) (all_digits 10 s) e))
   where
     other : (t : Bool) → eqb b sep ≡ t → t ≡ false
     other false z = refl
     other true z =
-        let same : b ≡ sep = eqb-true b sep z in
-        let low : digit_of b < 10 = ltb-true (digit_of b) 10 (and_left (ltb (digit_of b) 10) (all_digits 10 s) e) in
-        let high : 10 ≤ digit_of b = subst (λ (x : ℕ). 10 ≤ digit_of x) (sym same) h in
-        absurd (omega arith)
+        let none : digit_of b ≡ None = ap digit_of (eqb-true b sep z) ∙ h in
+        let some : is_some (digit_in 10 b) ≡ true = and_left (is_some (digit_in 10 b)) (all_digits 10 s) e in
+        sym (rw none at some)
 
 module _ (sep : ℕ) where
   self : eqb sep sep ≡ true
@@ -84,7 +84,7 @@ module _ (sep : ℕ) where
   cut-back [] = refl
   cut-back (x ∷ s) = go (eqb x sep) refl (cut_at sep s) refl (cut-back s)
     where
-      go : (t : Bool) → eqb x sep ≡ t → (qs : List (List ℕ)) → cut_at sep s ≡ qs → CutBack qs s → CutBack (cond t ([] ∷ qs) (onto x qs)) (x ∷ s)
+      go : (t : Bool) → eqb x sep ≡ t → (qs : List (List ℕ)) → cut_at sep s ≡ qs → CutBack qs s → CutBack (cond t ([] ∷ qs) (onto_first x qs)) (x ∷ s)
       go true z (c ∷ cs) q b = (s, (ap (λ (y : ℕ). y ∷ s) (eqb-true x sep z), q))
       go false z (c ∷ []) q b = ap (λ (y : List ℕ). x ∷ y) b
       go false z (c ∷ d ∷ ds) q b = (b.0, (ap (λ (y : List ℕ). x ∷ y) b.1.0, b.1.1))

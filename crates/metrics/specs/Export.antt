@@ -1,13 +1,9 @@
 -- The metrics export as a whole (document 02, W3): what is read of a text, what is answered, and what is then in the lent history.
-use Rattle.std.specs.Prelude.{ℕ, suc, cond, List, [], ◌∷◌, ◌++◌, map, eqb, leb, Float, length, drop}
+use Rattle.std.specs.Prelude.{ℕ, suc, cond, List, [], ◌∷◌, ◌++◌, map, eqb, leb, Float, length, drop, Option, Some, None, Result, Ok, Err}
 use Prim.Native.Char.{code}
 use Rattle.history.specs.declared.CompletedTrial.{CompletedTrial}
 use Rattle.metrics.specs.Pieces.{cut_at}
 use Rattle.metrics.specs.Line.{line_of}
-use Rattle.metrics.specs.declared.line.LineRead.{LineRead}
-use Rattle.metrics.specs.declared.line.LineRead.TheVariants as Line
-use Rattle.metrics.specs.declared.ReadAnswer.{ReadAnswer}
-use Rattle.metrics.specs.declared.ReadAnswer.TheVariants.{Count, Refused}
 use Rattle.metrics.specs.declared.ExportRefusal.{ExportRefusal}
 use Rattle.metrics.specs.declared.ExportRefusal.TheVariants.{MalformedLine, ShortHistory}
 
@@ -17,10 +13,10 @@ pub data Export : Type 0 where
   malformed : ℕ → Export
 
 -- line k in front of what the lines behind it are
-abbrev pub after : ℕ → LineRead → Export → Export
-after k Line.Malformed e = malformed k
-after k (Line.Entry t) (well ts) = well (t ∷ ts)
-after k (Line.Entry t) (malformed n) = malformed n
+abbrev pub after : ℕ → Option CompletedTrial → Export → Export
+after k None e = malformed k
+after k (Some t) (well ts) = well (t ∷ ts)
+after k (Some t) (malformed n) = malformed n
 
 -- Lines numbered from k, cut at their line feeds. What stands behind the last line feed must be empty: "The last line needs its line feed too".
 unfoldable pub lines_from : ℕ → List (List ℕ) → Export
@@ -38,9 +34,9 @@ export_refusal_number (MalformedLine k) = 14
 export_refusal_number ShortHistory = 15
 
 -- "14, the first malformed line"; "15, the lent history is too short, is judged after every line has been read well"; else "return their count"
-unfoldable pub answer_of : ℕ → Export → ReadAnswer
-answer_of places (malformed k) = Refused (MalformedLine k)
-answer_of places (well ts) = cond (leb (length ts) places) (Count (length ts)) (Refused ShortHistory)
+unfoldable pub answer_of : ℕ → Export → Result ℕ ExportRefusal
+answer_of places (malformed k) = Err (MalformedLine k)
+answer_of places (well ts) = cond (leb (length ts) places) (Ok (length ts)) (Err ShortHistory)
 
 -- Lent memory afterwards, where an entry t is kept there as `give t`: the entries in the file's order from the first place on, "Entries past those
 -- read are untouched", and all of it untouched where the answer is a refusal.

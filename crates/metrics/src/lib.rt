@@ -4,12 +4,13 @@
 
 ghost use Rattle.std.specs.Prelude.{min, ◌≡◌, length};
 ghost use Rattle.metrics.specs.Export.{export_of, answer_of, left_in, entry_of, number_of, value_of};
-ghost use Rattle.metrics.specs.Steps.{step_of, counted};
 
+use entries::Entries;
 use history::CompletedTrial;
-use line::{NextLine, next_line};
+use line::next_line;
 
 mod cut;
+mod entries;
 mod line;
 mod value;
 
@@ -20,80 +21,33 @@ pub enum ExportRefusal {
     ShortHistory,
 }
 
-// How many entries were read, or why nothing was written.
-#[derive(Clone, Copy)]
-pub enum ReadAnswer {
-    Count(usize),
-    Refused(ExportRefusal),
-}
-
-// An entry, and where the next line starts.
-#[derive(Clone, Copy)]
-pub struct Step {
-    pub entry: CompletedTrial,
-    pub next: usize,
-}
-
 // Every line is read, and nothing written: 14 comes first, then 15 where the entries are more than the lent places.
-fn judge(text: &[u8], places: usize) -> ReadAnswer
+#[tactic(auto, using(crate::proofs::Lines::judged))]
+fn judge(text: &[u8], places: usize) -> Result<usize, ExportRefusal>
     ensures { result ≡ answer_of places (export_of text.now) }
 {
+    let mut left = text;
     let mut n: usize = 0;
-    let mut at: usize = 0;
-    while at < text.len() {
-        match next_line(text, at) {
-            NextLine::Entry(_, next) => {
-                at = next;
-                n += 1;
-            }
-            NextLine::Malformed => {
-                return ReadAnswer::Refused(ExportRefusal::MalformedLine(n + 1));
-            }
-        }
+    while let Some((_, rest)) = next_line(left) {
+        left = rest;
+        n += 1;
     }
-    if n <= places {
-        ReadAnswer::Count(n)
+    if !left.is_empty() {
+        Err(ExportRefusal::MalformedLine(n + 1))
+    } else if n > places {
+        Err(ExportRefusal::ShortHistory)
     } else {
-        ReadAnswer::Refused(ExportRefusal::ShortHistory)
+        Ok(n)
     }
 }
 
-// How many entries are to be written: none where the export is refused.
-fn to_write(answer: ReadAnswer) -> usize
-    ensures { result ≡ counted answer }
-{
-    match answer {
-        ReadAnswer::Count(n) => n,
-        ReadAnswer::Refused(_) => 0,
-    }
-}
-
-// The entry of the line that starts at `at`. Where there is none any entry will do: only lines that `judge` has read well are
-// asked for.
-fn step_at(text: &[u8], at: usize) -> Step
-    ensures { result ≡ step_of text.now at }
-{
-    match next_line(text, at) {
-        NextLine::Entry(entry, next) => Step { entry, next },
-        NextLine::Malformed => Step {
-            entry: CompletedTrial {
-                number: 0,
-                value: 0.0,
-            },
-            next: at,
-        },
-    }
-}
-
-// The smaller of two lengths: so many entries have a place in both slices.
-fn least(a: usize, b: usize) -> usize
-    ensures { result ≡ min a b }
-{
-    if a < b { a } else { b }
-}
-
-// The export read into two plain slices, a number and a value for each entry.
-pub fn read_history_slices(text: &[u8], numbers: &mut [u64], values: &mut [f64]) -> ReadAnswer
+// The export read into two plain slices, a number and a value for each entry: how many entries there are.
+#[tactic(auto, using(crate::proofs::Writes::writes))]
+pub fn read_history_slices(
+    text: &[u8],
+    numbers: &mut [u64],
+    values: &mut [f64],
+) -> Result<usize, ExportRefusal>
     ensures answer { let places = min (length numbers.old) (length values.old) in
         result ≡ answer_of places (export_of text.now) }
     ensures numbers { let places = min (length numbers.old) (length values.old) in
@@ -101,38 +55,24 @@ pub fn read_history_slices(text: &[u8], numbers: &mut [u64], values: &mut [f64])
     ensures values { let places = min (length numbers.old) (length values.old) in
         values.new ≡ left_in value_of places (export_of text.now) values.old }
 {
-    let places = least(numbers.len(), values.len());
-    let answer = judge(text, places);
-    let n = to_write(answer);
-    let mut at: usize = 0;
-    let mut i: usize = 0;
-    while i < n {
-        let s = step_at(text, at);
-        let entry = s.entry;
+    let count = judge(text, numbers.len().min(values.len()))?;
+    for (i, entry) in Entries(text).enumerate() {
         numbers[i] = entry.number;
         values[i] = entry.value;
-        at = s.next;
-        i += 1;
     }
-    answer
+    Ok(count)
 }
 
-// The export read into a lent history.
-pub fn read_history(text: &[u8], history: &mut [CompletedTrial]) -> ReadAnswer
+// The export read into a lent history: how many entries there are.
+#[tactic(auto, using(crate::proofs::Writes::writes))]
+pub fn read_history(text: &[u8], history: &mut [CompletedTrial]) -> Result<usize, ExportRefusal>
     ensures { let places = length history.old in
         (result ≡ answer_of places (export_of text.now))
         × (history.new ≡ left_in entry_of places (export_of text.now) history.old) }
 {
-    let places = history.len();
-    let answer = judge(text, places);
-    let count = to_write(answer);
-    let mut at: usize = 0;
-    let mut i: usize = 0;
-    while i < count {
-        let s = step_at(text, at);
-        history[i] = s.entry;
-        at = s.next;
-        i += 1;
+    let count = judge(text, history.len())?;
+    for (i, entry) in Entries(text).enumerate() {
+        history[i] = entry;
     }
-    answer
+    Ok(count)
 }

@@ -1,19 +1,13 @@
--- The loop's invariant is that of Writes, for the numbers and for the values.
-use mathlib.Core.Path.{◌≡◌}
-use Prim.Native.Nat.{◌-◌, ◌≤◌}
-use mathlib.Core.List.{map}
-use lib.ListN.{length, drop}
-use lib.Seq.{sets}
-use Rattle.metrics.specs.Export.{export_of, number_of, value_of}
-use Rattle.metrics.specs.Steps.{chosen}
-use Rattle.metrics.proofs.Writes.{Reading}
+-- The entries of what is left, written behind those so far, make all of them written.
+use Rattle.std.proofs.Common.{◌≡◌, ◌+◌, length}
+use Rattle.metrics.specs.Export.{number_of, value_of}
+use Rattle.metrics.specs.Steps.{entries_of}
+use Rattle.metrics.proofs.Writes.{filled}
 use Rattle.metrics.proofs.read_history_slices.Given as goal
 
 abbrev pub invariant-loop-i : goal.invariant-loop-i
 invariant-loop-i l =
-    (l.i ≤ l.n) × (length l.numbers ≡ length l.initial.numbers) × (length l.values ≡ length l.initial.values) × Reading l.text (chosen l.places (export_of l.text)) l.i l.at
-    × (sets l.numbers l.i (map number_of (drop l.i (chosen l.places (export_of l.text)))) ≡ sets l.initial.numbers 0 (map number_of (chosen l.places (export_of l.text))))
-    × (sets l.values l.i (map value_of (drop l.i (chosen l.places (export_of l.text)))) ≡ sets l.initial.values 0 (map value_of (chosen l.places (export_of l.text))))
-
-abbrev pub decreases-loop-i : goal.decreases-loop-i
-decreases-loop-i l = l.n - l.i
+    let i = l.i-iterator.count in
+    let left = l.i-iterator.iter.0.now in
+    (i + length (entries_of left) ≡ length (entries_of l.text)) × (filled number_of l.numbers i left ≡ filled number_of l.initial.numbers 0 l.text)
+    × (filled value_of l.values i left ≡ filled value_of l.initial.values 0 l.text)
