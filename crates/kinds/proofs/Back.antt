@@ -1,4 +1,5 @@
 -- Each part of a state comes back from its words.
+use Rattle.std.specs.Prelude.{Option, Some, None, is_some, unwrap_or, IfSome}
 use Prim.Native.Nat.{ℕ, zero, suc, ◌+◌, ◌*◌, ◌%◌, ◌^◌, ◌≤◌, ◌<◌}
 use native.Mathlib.Omega.{arith}
 use mathlib.Core.Bool.{Bool, true, false, cond, true≢false}
@@ -17,11 +18,7 @@ use Rattle.distribution.specs.Dims.{is_continuous, choices_of}
 use Rattle.distribution.specs.Validate.{is_finite}
 use Rattle.distribution.specs.declared.DimensionInfo.{DimensionInfo}
 use Rattle.distribution.specs.declared.Distribution.{Distribution}
-use Rattle.distribution.specs.declared.FloatStep.{FloatStep}
-use Rattle.distribution.specs.declared.IntStep.{IntStep}
 use Rattle.distribution.specs.declared.Distribution.TheVariants as D
-use Rattle.distribution.specs.declared.FloatStep.TheVariants as FS
-use Rattle.distribution.specs.declared.IntStep.TheVariants as IS
 use Rattle.common.specs.Bounds.{zero_f}
 use Rattle.common.proofs.PlaceLaws.{at-place}
 use Rattle.ledger.specs.Words.{All, all}
@@ -30,20 +27,16 @@ use Rattle.candidates.specs.declared.Candidate.{Candidate}
 use Rattle.evolution.specs.declared.DEStrategy.TheVariants.{Rand1, Best1, CurrentToBest1}
 use Rattle.evolution.specs.declared.DEStrategy.{DEStrategy}
 use Rattle.evolution.specs.declared.Member.{Member}
-use Rattle.evolution.specs.declared.PopulationSize.TheVariants.{Unset, Of}
-use Rattle.evolution.specs.declared.PopulationSize.{PopulationSize}
 use Rattle.evolution.specs.declared.Setup.{Setup}
 use Rattle.kernel.specs.Fits.{is_zero, entries_fit, choice_limit, choices_fit, fits}
-use Rattle.state.specs.declared.FirstTrial.TheVariants.{Unnamed, Named}
-use Rattle.state.specs.declared.FirstTrial.{FirstTrial}
 use Rattle.state.specs.declared.TrialProgress.{TrialProgress}
 use Rattle.state.proofs.Flags.{true-and}
 use Rattle.state.proofs.Floats.{zero-true}
 use Rattle.state.proofs.Tidy.{padded}
 use Rattle.kinds.specs.Opened.{row}
-use Rattle.kinds.specs.Rows.{double_word, word_double, whole_word, word_whole, strategy_word, word_strategy, sized_word, size_word, word_size, setup_words, setup_in, named_word, first_word, word_first, float_words, int_words, dim_words, dim_in, trial_words, trial_in, vector_words, entries_in, choices_in, candidate_words, candidate_in, member_words, member_in}
-use Rattle.kinds.specs.Kinds.{joined}
-use Rattle.kinds.specs.Typed.{Double, FloatStepFits, IntStepFits, Whole, TypedCandidate}
+use Rattle.kinds.specs.Rows.{double_word, word_double, whole_word, word_whole, strategy_word, word_strategy, flag, word_option, setup_words, setup_in, float_words, int_words, dim_words, dim_in, trial_words, trial_in, vector_words, entries_in, choices_in, candidate_words, candidate_in, member_words, member_in}
+use Rattle.std.specs.List.{flat_map}
+use Rattle.kinds.specs.Typed.{Double, Whole, TypedCandidate}
 
 double-back : (x : Float) → Double x → word_double (double_word x) ≡ x
 double-back x h = of_bits-to_bits binary64 x h
@@ -55,13 +48,9 @@ strategy-back Rand1 = refl
 strategy-back Best1 = refl
 strategy-back CurrentToBest1 = refl
 
-size_back : (z : PopulationSize) → word_size (sized_word z) (size_word z) ≡ z
-size_back Unset = refl
-size_back (Of n) = refl
-
-pub first_back : (z : FirstTrial) → word_first (named_word z) (first_word z) ≡ z
-first_back Unnamed = refl
-first_back (Named n) = refl
+pub option_back : (o : Option ℕ) → word_option (flag (is_some o)) (unwrap_or o 0) ≡ o
+option_back None = refl
+option_back (Some n) = refl
 
 pub setup-back : (S : Setup) (rest : List ℕ) → Double S.mutation_factor → Double S.crossover_rate → setup_in (setup_words S ++ rest) ≡ S
 unfolding setup_in setup_words
@@ -70,7 +59,7 @@ setup-back S rest f r =
       mutation_factor = double-back S.mutation_factor f i;
       crossover_rate = double-back S.crossover_rate r i;
       strategy = strategy-back S.strategy i;
-      population_size = size_back S.population_size i;
+      population_size = option_back S.population_size i;
       seed = S.seed;
     }
 
@@ -83,21 +72,21 @@ whole_back z h = at-place z h
 
 -- a distribution of doubles and 64-bit numbers, without log scale
 abbrev pub Sayable : Distribution → Type 0
-Sayable (D.Float d) = Double d.low × Double d.high × (d.log_scale ≡ false) × FloatStepFits d.step
-Sayable (D.Int d) = Whole d.low × Whole d.high × (d.log_scale ≡ false) × IntStepFits d.step
+Sayable (D.Float d) = Double d.low × Double d.high × (d.log_scale ≡ false) × IfSome d.step Double
+Sayable (D.Int d) = Whole d.low × Whole d.high × (d.log_scale ≡ false) × IfSome d.step Whole
 Sayable (D.Categorical d) = Unit {0}
 
-float_back : (a b : Float) (l : Bool) (s : FloatStep) → Double a → Double b → l ≡ false → FloatStepFits s
+float_back : (a b : Float) (l : Bool) (s : Option Float) → Double a → Double b → l ≡ false → IfSome s Double
     → dim_in (float_words a b s) ≡ record { distribution = D.Float (record { low = a; high = b; log_scale = l; step = s }) }
 unfolding dim_in
-float_back a b l FS.Unset p q e h = λ i. record { distribution = D.Float (record { low = double-back a p i; high = double-back b q i; log_scale = sym e i; step = FS.Unset }) }
-float_back a b l (FS.By x) p q e h = λ i. record { distribution = D.Float (record { low = double-back a p i; high = double-back b q i; log_scale = sym e i; step = FS.By (double-back x h i) }) }
+float_back a b l None p q e h = λ i. record { distribution = D.Float (record { low = double-back a p i; high = double-back b q i; log_scale = sym e i; step = None }) }
+float_back a b l (Some x) p q e h = λ i. record { distribution = D.Float (record { low = double-back a p i; high = double-back b q i; log_scale = sym e i; step = Some (double-back x h i) }) }
 
-int-back : (a b : ℤ) (l : Bool) (s : IntStep) → Whole a → Whole b → l ≡ false → IntStepFits s
+int-back : (a b : ℤ) (l : Bool) (s : Option ℤ) → Whole a → Whole b → l ≡ false → IfSome s Whole
     → dim_in (int_words a b s) ≡ record { distribution = D.Int (record { low = a; high = b; log_scale = l; step = s }) }
 unfolding dim_in
-int-back a b l IS.Unset p q e h = λ i. record { distribution = D.Int (record { low = whole_back a p i; high = whole_back b q i; log_scale = sym e i; step = IS.Unset }) }
-int-back a b l (IS.By x) p q e h = λ i. record { distribution = D.Int (record { low = whole_back a p i; high = whole_back b q i; log_scale = sym e i; step = IS.By (whole_back x h i) }) }
+int-back a b l None p q e h = λ i. record { distribution = D.Int (record { low = whole_back a p i; high = whole_back b q i; log_scale = sym e i; step = None }) }
+int-back a b l (Some x) p q e h = λ i. record { distribution = D.Int (record { low = whole_back a p i; high = whole_back b q i; log_scale = sym e i; step = Some (whole_back x h i) }) }
 
 distribution-back : (d : Distribution) → Sayable d → dim_in (dim_words (record { distribution = d })) ≡ record { distribution = d }
 unfolding dim_words dim_in
@@ -112,14 +101,14 @@ pub dim-length : (d : Distribution) → length (dim_words (record { distribution
 unfolding dim_words
 dim-length (D.Float d) = go d.step
   where
-    go : (s : FloatStep) → length (float_words d.low d.high s) ≡ 5
-    go FS.Unset = refl
-    go (FS.By x) = refl
+    go : (s : Option Float) → length (float_words d.low d.high s) ≡ 5
+    go None = refl
+    go (Some x) = refl
 dim-length (D.Int d) = go d.step
   where
-    go : (s : IntStep) → length (int_words d.low d.high s) ≡ 5
-    go IS.Unset = refl
-    go (IS.By x) = refl
+    go : (s : Option ℤ) → length (int_words d.low d.high s) ≡ 5
+    go None = refl
+    go (Some x) = refl
 dim-length (D.Categorical d) = refl
 
 pub trial-back : (t : TrialProgress) → trial_in (trial_words t) ≡ t
@@ -133,15 +122,15 @@ module _ {A : Type 0} (f : A → List ℕ) (g : List ℕ → A) (w : ℕ) where
     pub width : length (f x) ≡ w
     pub back : g (f x) ≡ x
 
-  from : (xs : List A) (before pad : List ℕ) (i : ℕ) → length before ≡ i * w → All Returns xs → listed (λ j. g (row (before ++ (joined f xs ++ pad)) w j)) (length xs) i ≡ xs
-  unfolding joined listed
+  from : (xs : List A) (before pad : List ℕ) (i : ℕ) → length before ≡ i * w → All Returns xs → listed (λ j. g (row (before ++ (flat_map f xs ++ pad)) w j)) (length xs) i ≡ xs
+  unfolding listed
   from [] before pad i e h = refl
   from (x ∷ xs) before pad i e h =
       let r = h x (Memᴰ.head refl) in
-      let q : row (before ++ (f x ++ joined f xs ++ pad)) w i ≡ f x =
-      ap (take w) (drop_at before (f x ++ joined f xs ++ pad) (i * w) e) ∙ ap (take w) (append_assoc (f x) (joined f xs) pad) ∙ take_at (f x) (joined f xs ++ pad) w r.width in
-      let s : before ++ (f x ++ joined f xs ++ pad) ≡ (before ++ f x) ++ (joined f xs ++ pad) =
-      ap (λ (t : List ℕ). before ++ t) (append_assoc (f x) (joined f xs) pad) ∙ sym (append_assoc before (f x) (joined f xs ++ pad)) in
+      let q : row (before ++ (f x ++ flat_map f xs ++ pad)) w i ≡ f x =
+      ap (take w) (drop_at before (f x ++ flat_map f xs ++ pad) (i * w) e) ∙ ap (take w) (append_assoc (f x) (flat_map f xs) pad) ∙ take_at (f x) (flat_map f xs ++ pad) w r.width in
+      let s : before ++ (f x ++ flat_map f xs ++ pad) ≡ (before ++ f x) ++ (flat_map f xs ++ pad) =
+      ap (λ (t : List ℕ). before ++ t) (append_assoc (f x) (flat_map f xs) pad) ∙ sym (append_assoc before (f x) (flat_map f xs ++ pad)) in
       λ k.
       (ap g q ∙ r.back) k
       ∷ (ap (λ (t : List ℕ). listed (λ j. g (row t w j)) (length xs) (i + 1)) s
@@ -150,7 +139,7 @@ module _ {A : Type 0} (f : A → List ℕ) (g : List ℕ → A) (w : ℕ) where
       next : (i : ℕ) → i * w + w ≡ (i + 1) * w
       next i = omega arith
 
-  pub rows_back : (xs : List A) (pad : List ℕ) → All Returns xs → listed (λ j. g (row (joined f xs ++ pad) w j)) (length xs) 0 ≡ xs
+  pub rows_back : (xs : List A) (pad : List ℕ) → All Returns xs → listed (λ j. g (row (flat_map f xs ++ pad) w j)) (length xs) 0 ≡ xs
   rows_back xs pad h = let z : 0 ≡ 0 * w = omega arith in from xs [] pad 0 z h
 
 -- ---- a vector

@@ -1,4 +1,5 @@
 -- Whatever words stand for is a state of the machine's numbers, where it is sound: lengths of arrays, doubles, numbers of 64 bits. Nothing is asked of the words.
+use Rattle.std.specs.Prelude.{Option, Some, None, option_map, IfSome}
 use Prim.Native.Nat.{ℕ, suc, ◌+◌, ◌%◌, ◌^◌, ◌≤◌, ◌<◌, min, max}
 use native.Mathlib.Omega.{arith}
 use mathlib.Core.Path.{◌≡◌, refl, sym, subst}
@@ -17,10 +18,7 @@ use Rattle.distribution.specs.Good.{Good, GoodIntStep}
 use Rattle.distribution.specs.Validate.{judged, int_limit}
 use Rattle.distribution.specs.declared.DimensionInfo.{DimensionInfo}
 use Rattle.distribution.specs.declared.Distribution.{Distribution}
-use Rattle.distribution.specs.declared.IntStep.{IntStep}
 use Rattle.distribution.specs.declared.Distribution.TheVariants as D
-use Rattle.distribution.specs.declared.FloatStep.TheVariants as FS
-use Rattle.distribution.specs.declared.IntStep.TheVariants as IS
 use Rattle.distribution.proofs.IntRows.{natural-step}
 use Rattle.distribution.proofs.Meaning.{judged-good}
 use Rattle.common.specs.Bounds.{zero_f}
@@ -34,12 +32,12 @@ use Rattle.state.specs.Places.{places_fit, passes}
 use Rattle.state.specs.Sound.{sound_state}
 use Rattle.state.specs.declared.State.{State}
 use Rattle.state.proofs.Flags.{true-and}
-use Rattle.state.proofs.Measured.{Measured}
+use Rattle.state.proofs.Measured.{arrays-of, Measured}
 use Rattle.state.proofs.Whole.{of-sound}
 use Rattle.records.proofs.Lists.{all_of, all_take, all_listed, all-padded, all_same, all-with, listed-length}
 use Rattle.kinds.specs.Rows.{word_double, float_in, int_in, dim_in, setup_in, trial_in, entries_in, choices_in, candidate_in, member_in}
 use Rattle.kinds.specs.Opened.{row, dim_at, state_in}
-use Rattle.kinds.specs.Typed.{TypedMember, Double, Whole, FloatStepFits, IntStepFits, TypedDistribution, TypedState, TypedCandidate}
+use Rattle.kinds.specs.Typed.{TypedMember, Double, Whole, TypedDistribution, TypedState, TypedCandidate}
 use Rattle.kinds.proofs.Typed.{sized_of}
 use Rattle.kinds.proofs.Saving.{in_use, none_of}
 
@@ -109,7 +107,7 @@ blank-typed =
 
 -- a distribution's doubles; its whole numbers are small where it passes 4 to 7
 abbrev pub Doubles : Distribution → Type 0
-Doubles (D.Float d) = Double d.low × Double d.high × FloatStepFits d.step
+Doubles (D.Float d) = Double d.low × Double d.high × IfSome d.step Double
 Doubles (D.Int d) = Unit {0}
 Doubles (D.Categorical d) = Unit {0}
 
@@ -117,9 +115,9 @@ small-whole : (z : ℤ) → nat_abs z ≤ int_limit → Whole z
 small-whole (pos n) h = omega arith
 small-whole (negsuc n) h = omega arith
 
-small-step : (s : IntStep) → GoodIntStep s → IntStepFits s
-small-step IS.Unset g = tt
-small-step (IS.By s) g = small-whole s (natural-step s g).most
+small-step : (s : Option ℤ) → GoodIntStep s → IfSome s Whole
+small-step None g = tt
+small-step (Some s) g = small-whole s (natural-step s g).most
 
 pub good-typed : (d : Distribution) → Doubles d → Good d → TypedDistribution d
 good-typed (D.Float d) t g = t
@@ -130,7 +128,7 @@ pub dim-doubles : (ws : List ℕ) → Doubles (dim_in ws).distribution
 unfolding dim_in
 dim-doubles ws = go (eqb (get_or ws 0 0) 1) (eqb (get_or ws 0 0) 2)
   where
-    step : (b : Bool) → FloatStepFits (cond b FS.Unset (FS.By (word_double (get_or ws 4 0))))
+    step : (b : Bool) → IfSome (option_map word_double (cond b None (Some (get_or ws 4 0)))) Double
     step true = tt
     step false = word-double (get_or ws 4 0)
 
@@ -207,7 +205,7 @@ module _ (us ns ds ts ps cs : List ℕ) where
   pub decoded : sound_state s ≡ true → TypedState s
   unfolding state_in setup_in
   decoded e =
-      let parts = of-sound s in-measured e in
+      let parts = of-sound s (arrays-of in-measured) e in
       record {
         dims_length = in-measured.dims;
         candidates_length = in-measured.candidates;

@@ -6,8 +6,8 @@ use mathlib.Core.Bool.{Bool, true, false}
 use mathlib.Core.List.{List, [], ◌∷◌, ◌++◌, append_assoc, append-nil}
 use mathlib.Core.Path.{◌≡◌, refl, sym, ap, ◌∙◌}
 use lib.Ieee.{Float}
-use lib.ListN.{length, take, drop, get_or, set, replicate, length-append}
-use lib.Seq.{drop-cons, get_or-take, drop-length, length-take-le}
+use lib.ListN.{length, drop, get_or, set, replicate, length-append}
+use lib.Seq.{drop-cons, drop-length}
 use Rattle.rng_util.specs.Many.{pad_to}
 use Rattle.rng_util.proofs.Parts.{pad-put}
 use Rattle.distribution.specs.Dims.{is_continuous}
@@ -29,10 +29,7 @@ blank ks i e = ap (λ (j : ℕ). set (pad_to 16 0 ks) j 0) (sym e) ∙ at-end ks
     at-end [] m = zeros m
     at-end (k ∷ ks) m = λ j. k ∷ at-end ks m j
 
-module _ (dims : List DimensionInfo) (n : ℕ) (ws : List ℕ) where
-  abbrev ds : List DimensionInfo
-  ds = take n dims
-
+module _ (ds : List DimensionInfo) (ws : List ℕ) where
   pub record Read (x : List Float) (choices : List ℕ) (ci i : ℕ) : Type 0 where
     pub xs : List Float
     pub ks : List ℕ
@@ -47,20 +44,17 @@ module _ (dims : List DimensionInfo) (n : ℕ) (ws : List ℕ) where
   pub first : Read (replicate 16 zero_f) (replicate 16 0) 0 0
   first = record { xs = []; ks = []; x_is = refl; choices_is = refl; ci_is = refl; i_is = refl; behind = omega arith; entries = refl; chosen = refl }
 
-  module _ (l : n ≤ length dims) (few : n ≤ 16) (long : n ≤ length ws) (x : List Float) (choices : List ℕ) (ci i : ℕ) (h : i < n) (g : Read x choices ci i)
-      (z d : DimensionInfo) (q : d ≡ get_or dims i z) where
-    count : length ds ≡ n
-    count = length-take-le n dims l
-
+  module _ (few : length ds ≤ 16) (long : length ds ≤ length ws) (x : List Float) (choices : List ℕ) (ci i : ℕ) (h : i < length ds) (g : Read x choices ci i)
+      (z d : DimensionInfo) (q : d ≡ get_or ds i z) where
     split : drop i ds ≡ d ∷ drop (i + 1) ds
-    split = drop-cons ds i z (omega (arith, count)) ∙ (λ k. (get_or-take n dims i z h ∙ sym q) k ∷ drop (sym (add-one i) k) ds)
+    split = drop-cons ds i z h ∙ (λ k. sym q k ∷ drop (sym (add-one i) k) ds)
 
     word : drop i ws ≡ get_or ws i 0 ∷ drop (i + 1) ws
     word = drop-cons ws i 0 (omega arith) ∙ ap (λ (m : ℕ). get_or ws i 0 ∷ drop m ws) (sym (add-one i))
 
-    chosen_by : (b : Bool) (k : ℕ) → is_continuous d ≡ b → choices_in (d ∷ drop (i + 1) ds) (get_or ws i 0 ∷ drop (i + 1) ws) ≡ k ∷ choices_in (drop (i + 1) ds) (drop (i + 1) ws)
+    chosen_by : (k : ℕ) → choices_in (d ∷ drop (i + 1) ds) (get_or ws i 0 ∷ drop (i + 1) ws) ≡ k ∷ choices_in (drop (i + 1) ds) (drop (i + 1) ws)
         → choices_in ds ws ≡ (g.ks ++ (k ∷ [])) ++ choices_in (drop (i + 1) ds) (drop (i + 1) ws)
-    chosen_by b k p e =
+    chosen_by k e =
         g.chosen
         ∙ ap (λ (t : List ℕ). g.ks ++ t) ((λ j. choices_in (split j) (word j)) ∙ e)
         ∙ sym (append_assoc g.ks (k ∷ []) (choices_in (drop (i + 1) ds) (drop (i + 1) ws)))
@@ -71,43 +65,44 @@ module _ (dims : List DimensionInfo) (n : ℕ) (ws : List ℕ) where
     laid : (k : ℕ) → pad_to 16 0 (g.ks ++ (k ∷ [])) ≡ set choices i k
     laid k = sym ((λ j. set (g.choices_is j) (sym g.i_is j) k) ∙ pad-put 16 0 k g.ks (omega (arith, g.i_is)))
 
-    pub next-entry : (t : Bool) (v : Float) → t ≡ is_continuous d → t ≡ true → v ≡ word_double (get_or ws i 0) → Read (set x ci v) choices (ci + 1) (i + 1)
-    next-entry t v p o r =
+    pub next-entry : (t : Bool) (v : Float) (x' : List Float) (c' : List ℕ) (m : ℕ) → t ≡ is_continuous d → t ≡ true → v ≡ word_double (get_or ws i 0)
+        → x' ≡ set x ci v → c' ≡ choices → m ≡ ci + 1 → Read x' c' m (i + 1)
+    next-entry t v x' c' m p o r ex ec em =
         let e = sym p ∙ o in
         record {
           xs = g.xs ++ (v ∷ []);
           ks = g.ks ++ (0 ∷ []);
-          x_is = (λ j. set (g.x_is j) (sym g.ci_is j) v) ∙ pad-put 16 zero_f v g.xs (omega (arith, g.ci_is, g.behind));
-          choices_is = sym (laid 0 ∙ ap (λ (c : List ℕ). set c i 0) g.choices_is ∙ blank g.ks i g.i_is ∙ sym g.choices_is);
-          ci_is = length-append g.xs (v ∷ []) ∙ ap (λ (j : ℕ). j + 1) g.ci_is;
+          x_is = ex ∙ (λ j. set (g.x_is j) (sym g.ci_is j) v) ∙ pad-put 16 zero_f v g.xs (omega (arith, g.ci_is, g.behind));
+          choices_is = ec ∙ sym (laid 0 ∙ ap (λ (c : List ℕ). set c i 0) g.choices_is ∙ blank g.ks i g.i_is ∙ sym g.choices_is);
+          ci_is = length-append g.xs (v ∷ []) ∙ ap (λ (j : ℕ). j + 1) g.ci_is ∙ sym em;
           i_is = one_more 0;
           behind = omega (arith, g.behind);
           entries = g.entries
               ∙ ap (λ (t : List Float). g.xs ++ t)
               ((λ j. entries_in (split j) (word j)) ∙ entries_by d (drop (i + 1) ds) true (get_or ws i 0) (drop (i + 1) ws) e ∙ (λ j. sym r j ∷ entries_in (drop (i + 1) ds) (drop (i + 1) ws)))
               ∙ sym (append_assoc g.xs (v ∷ []) (entries_in (drop (i + 1) ds) (drop (i + 1) ws)));
-          chosen = chosen_by true 0 e (choices-by d (drop (i + 1) ds) true (get_or ws i 0) (drop (i + 1) ws) e);
+          chosen = chosen_by 0 (choices-by d (drop (i + 1) ds) true (get_or ws i 0) (drop (i + 1) ws) e);
         }
 
-    pub next-choice : (t : Bool) (k : ℕ) → t ≡ is_continuous d → t ≡ false → k ≡ get_or ws i 0 % 2 ^ 16 → Read x (set choices i k) ci (i + 1)
-    next-choice t k p o r =
+    pub next-choice : (t : Bool) (k : ℕ) (x' : List Float) (c' : List ℕ) (m : ℕ) → t ≡ is_continuous d → t ≡ false → k ≡ get_or ws i 0 % 2 ^ 16
+        → x' ≡ x → c' ≡ set choices i k → m ≡ ci → Read x' c' m (i + 1)
+    next-choice t k x' c' m p o r ex ec em =
         let e = sym p ∙ o in
         record {
           xs = g.xs;
           ks = g.ks ++ (k ∷ []);
-          x_is = g.x_is;
-          choices_is = sym (laid k);
-          ci_is = g.ci_is;
+          x_is = ex ∙ g.x_is;
+          choices_is = ec ∙ sym (laid k);
+          ci_is = g.ci_is ∙ sym em;
           i_is = one_more k;
           behind = omega (arith, g.behind);
           entries = g.entries ∙ ap (λ (t : List Float). g.xs ++ t) ((λ j. entries_in (split j) (word j)) ∙ entries_by d (drop (i + 1) ds) false (get_or ws i 0) (drop (i + 1) ws) e);
-          chosen = chosen_by false k e (choices-by d (drop (i + 1) ds) false (get_or ws i 0) (drop (i + 1) ws) e ∙ (λ j. sym r j ∷ choices_in (drop (i + 1) ds) (drop (i + 1) ws)));
+          chosen = chosen_by k (choices-by d (drop (i + 1) ds) false (get_or ws i 0) (drop (i + 1) ws) e ∙ (λ j. sym r j ∷ choices_in (drop (i + 1) ds) (drop (i + 1) ws)));
         }
 
-  pub last : n ≤ length dims → (x : List Float) (choices : List ℕ) (ci i : ℕ) → i ≡ n → Read x choices ci i → ◌≡◌ {A = Candidate} (record { x = x; choices = choices }) (candidate_in ds ws)
+  pub last : (x : List Float) (choices : List ℕ) (ci i : ℕ) → i ≡ length ds → Read x choices ci i → ◌≡◌ {A = Candidate} (record { x = x; choices = choices }) (candidate_in ds ws)
   unfolding entries_in choices_in
-  last l x choices ci i e g =
-      let q : i ≡ length ds = e ∙ sym (length-take-le n dims l) in
+  last x choices ci i q g =
       let z : drop i ds ≡ [] = ap (λ (k : ℕ). drop k ds) q ∙ drop-length ds in
       let a : entries_in ds ws ≡ g.xs = g.entries ∙ ap (λ (t : List DimensionInfo). g.xs ++ entries_in t (drop i ws)) z ∙ append-nil g.xs in
       let b : choices_in ds ws ≡ g.ks = g.chosen ∙ ap (λ (t : List DimensionInfo). g.ks ++ choices_in t (drop i ws)) z ∙ append-nil g.ks in

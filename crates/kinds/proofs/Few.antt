@@ -2,21 +2,16 @@
 use Prim.Native.Nat.{ℕ, ◌+◌, ◌*◌, ◌≤◌}
 use native.Mathlib.Nat.{mul-le-mul}
 use native.Mathlib.Omega.{arith}
-use mathlib.Core.Bool.{Bool, true, false, ◌&&◌, cond}
+use mathlib.Core.Bool.{Bool, true, false, cond}
 use mathlib.Core.List.{List}
-use mathlib.Core.Path.{◌≡◌, sym, ap, ◌∙◌, subst}
+use mathlib.Core.Path.{◌≡◌, sym, subst}
 use lib.Dec.{eqb}
-use lib.ListN.{length, replicate}
-use Rattle.rng_util.specs.Many.{pad_to}
-use Rattle.rng_util.proofs.Parts.{pad-length}
+use lib.ListN.{length}
 use Rattle.state.specs.View.{candidate_count, parent_count}
 use Rattle.state.specs.declared.State.{State}
 use Rattle.state.proofs.Measured.{Measured}
-use Rattle.records.specs.Tables.{same_words, same_flags, holds, records_for}
-use Rattle.records.specs.declared.Table.{Table}
-use Rattle.kinds.specs.Kinds.{Roomy, kind_words, section_for, count_words, parents_words, candidates_words}
+use Rattle.kinds.specs.Kinds.{Roomy, kind_words, count_words, parents_words, candidates_words}
 use Rattle.kinds.specs.Rows.{setup_words}
-use Rattle.kinds.specs.declared.Section.{Section}
 use Rattle.kinds.proofs.Sectioned.{dims_length, trials_length, parents_length, candidates_length}
 
 module _ (s : State) (m : Measured s) (r : Roomy s) where
@@ -56,20 +51,3 @@ module _ (s : State) (m : Measured s) (r : Roomy s) where
       (either (eqb kind 3) _ _ (omega (arith, dims_length s m r, r.dims))
       (either (eqb kind 4) _ _ (omega (arith, trials_length s m r, r.trials))
       (either (eqb kind 5) _ _ few-5 (either (eqb kind 6) _ _ few-6 (omega arith))))))
-
-  module _ (kind : ℕ) (t : Section) (e : t ≡ section_for (kind_words s kind)) where
-    pub section-few : t.n ≤ 3600
-    section-few = omega (arith, ap (λ (u : Section). u.n) e, kind-few kind)
-
-    pub section-records : (k : ℕ) → k ≡ records_for t.n → k ≤ 1200
-    section-records k q = omega (arith, section-few)
-
-    pub compared : (u : Table) (x y : Bool) (k : ℕ) → k ≡ records_for t.n → x ≡ same_words u.words t.words → y ≡ same_flags u.filled (pad_to 1200 false (replicate k true))
-        → (x && y) ≡ holds u (kind_words s kind)
-    unfolding holds
-    compared u x y k q p w =
-        λ i. (p ∙ ap (λ (v : Section). same_words u.words v.words) e) i
-        && (w ∙ ap (λ (j : ℕ). same_flags u.filled (pad_to 1200 false (replicate j true))) (q ∙ ap (λ (v : Section). records_for v.n) e)) i
-
-    pub section-long : length t.words ≡ 3600
-    section-long = ap (λ (u : Section). length u.words) e ∙ pad-length 3600 0 (kind_words s kind) (kind-few kind)

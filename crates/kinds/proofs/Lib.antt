@@ -3,6 +3,7 @@ pub mod Decoded
 pub mod Entries
 pub mod EntriesIn
 pub mod Few
+pub mod Lent
 pub mod Saving
 pub mod Sectioned
 pub mod Small

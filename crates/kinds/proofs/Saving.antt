@@ -1,9 +1,9 @@
 -- A sound state comes back from its own records.
+use Rattle.std.specs.Prelude.{Option, Some, None, is_none}
 use Prim.Native.Nat.{ℕ, ◌+◌, ◌-◌, ◌%◌, ◌^◌, ◌≤◌, min, max}
 use native.Mathlib.Omega.{arith}
 use mathlib.Core.Bool.{Bool, true, false, cond, true≢false}
 use mathlib.Core.List.{List}
-use mathlib.Core.Option.{Option, none, some}
 use mathlib.Core.Path.{◌≡◌, refl, sym, ap, ◌∙◌}
 use lib.Dec.{eqb}
 use lib.ListN.{length, take, drop, replicate}
@@ -16,7 +16,7 @@ use Rattle.distribution.specs.declared.Distribution.{Distribution}
 use Rattle.distribution.specs.declared.Distribution.TheVariants as D
 use Rattle.distribution.proofs.Meaning.{judged-good}
 use Rattle.ledger.specs.State.{cap}
-use Rattle.ledger.specs.Words.{All, all, is_none}
+use Rattle.ledger.specs.Words.{All, all}
 use Rattle.candidates.specs.Candidate.{blank_candidate}
 use Rattle.evolution.specs.declared.Member.{Member}
 use Rattle.selection.specs.Records.{blank_member}
@@ -31,13 +31,15 @@ use Rattle.state.proofs.Flags.{true-and}
 use Rattle.state.proofs.Laid.{back}
 use Rattle.state.proofs.Parts.{Parts}
 use Rattle.state.proofs.Tidy.{sound-few, is-laid}
+use Rattle.state.proofs.Measured.{arrays-of}
 use Rattle.state.proofs.Whole.{of-sound, few-candidates, few-parents}
 use Rattle.records.proofs.Lists.{all_of, all_take}
 use Rattle.kinds.specs.Opened.{row, dim_at, state_in}
 use Rattle.kinds.specs.Rows.{flag, setup_words, dim_words, dim_in, trial_words, trial_in, candidate_words, candidate_in, member_words, member_in}
-use Rattle.kinds.specs.Kinds.{joined, dims_of, count_words, dims_words, trials_words, parents_words, candidates_words}
+use Rattle.std.specs.List.{flat_map}
+use Rattle.kinds.specs.Kinds.{dims_of, count_words, dims_words, trials_words, parents_words, candidates_words}
 use Rattle.kinds.specs.Typed.{Double, TypedDistribution, TypedState, TypedCandidate}
-use Rattle.kinds.proofs.Back.{Sayable, Returns, first_back, setup-back, rows_back, dim-returns, trial-returns, candidate-returns, member-returns}
+use Rattle.kinds.proofs.Back.{Sayable, Returns, option_back, setup-back, rows_back, dim-returns, trial-returns, candidate-returns, member-returns}
 use Rattle.kinds.proofs.Typed.{measured-of}
 
 sayable : (d : Distribution) → TypedDistribution d → Good d → Sayable d
@@ -47,9 +49,9 @@ sayable (D.Categorical d) t g = tt
 
 -- ---- lists
 
-pub none_of : (o : Option ℕ) → is_none o ≡ true → o ≡ none
-none_of none e = refl
-none_of (some n) e = absurd (true≢false (sym e))
+pub none_of : (o : Option ℕ) → is_none o ≡ true → o ≡ None
+none_of None e = refl
+none_of (Some n) e = absurd (true≢false (sym e))
 
 pub in_use : {A : Type 0} (right blank : A → Bool) (n : ℕ) (xs : List A) → places_fit right blank n xs ≡ true → All (λ x. right x ≡ true) (take n xs)
 unfolding places_fit
@@ -69,7 +71,7 @@ small-back n h = omega arith
 
 module _ (s : State) (e : sound_state s ≡ true) (p : TypedState s) where
   parts : Parts s
-  parts = of-sound s (measured-of s p) e
+  parts = of-sound s (arrays-of (measured-of s p)) e
 
   whole : s ≡ laid s.setup (view s)
   whole = is-laid s e (measured-of s p)
@@ -85,10 +87,10 @@ module _ (s : State) (e : sound_state s ≡ true) (p : TypedState s) where
   trials-count = length-take-le s.n_trials s.trials (omega (arith, (measured-of s p).trials, (sound-few s e (measured-of s p)).trials))
 
   pub candidates-count : length (take (candidate_count s) s.candidates) ≡ candidate_count s
-  candidates-count = length-take-le (candidate_count s) s.candidates (omega (arith, (measured-of s p).candidates, few-candidates s (measured-of s p) (sound-few s e (measured-of s p))))
+  candidates-count = length-take-le (candidate_count s) s.candidates (omega (arith, (measured-of s p).candidates, few-candidates s (sound-few s e (measured-of s p))))
 
   pub parents-count : length (take (parent_count s) s.parents) ≡ parent_count s
-  parents-count = length-take-le (parent_count s) s.parents (omega (arith, (measured-of s p).parents, few-parents s (measured-of s p) (sound-few s e (measured-of s p))))
+  parents-count = length-take-le (parent_count s) s.parents (omega (arith, (measured-of s p).parents, few-parents s (sound-few s e (measured-of s p))))
 
   pub dims-return : All (Returns dim_words dim_in 5) (dims_of s)
   dims-return d m =
@@ -113,12 +115,12 @@ module _ (s : State) (e : sound_state s ≡ true) (p : TypedState s) where
 
   pub dims-read : listed (dim_at (in_table (dims_words s))) (min s.n_dims 16) 0 ≡ dims_of s
   unfolding dims_words
-  dims-read = ap (λ (n : ℕ). listed (dim_at (in_table (joined dim_words (dims_of s)))) n 0) dims-least ∙ rows_back dim_words dim_in 5 (dims_of s) _ dims-return
+  dims-read = ap (λ (n : ℕ). listed (dim_at (in_table (flat_map dim_words (dims_of s)))) n 0) dims-least ∙ rows_back dim_words dim_in 5 (dims_of s) _ dims-return
 
   trials-read : listed (λ i. trial_in (row (in_table (trials_words s)) 2 i)) (min s.n_trials 224) 0 ≡ take s.n_trials s.trials
   unfolding trials_words
   trials-read =
-      ap (λ (n : ℕ). listed (λ i. trial_in (row (in_table (joined trial_words (take s.n_trials s.trials))) 2 i)) n 0)
+      ap (λ (n : ℕ). listed (λ i. trial_in (row (in_table (flat_map trial_words (take s.n_trials s.trials))) 2 i)) n 0)
       (min-is s.n_trials 224 (sound-few s e (measured-of s p)).trials ∙ sym trials-count)
       ∙ rows_back trial_words trial_in 2 (take s.n_trials s.trials) _ (λ t m. trial-returns t)
 
@@ -129,8 +131,8 @@ module _ (s : State) (e : sound_state s ≡ true) (p : TypedState s) where
   unfolding candidates_words
   candidates-read k q =
       let c : min k 224 ≡ length (take (candidate_count s) s.candidates) =
-      ap (λ (n : ℕ). min n 224) q ∙ min-is (candidate_count s) 224 (few-candidates s (measured-of s p) (sound-few s e (measured-of s p))) ∙ sym candidates-count in
-      (λ j. listed (λ i. candidate_in (dims-read j) (row (in_table (joined (candidate_words (dims_of s)) (take (candidate_count s) s.candidates))) (dims-least j) i)) (c j) 0)
+      ap (λ (n : ℕ). min n 224) q ∙ min-is (candidate_count s) 224 (few-candidates s (sound-few s e (measured-of s p))) ∙ sym candidates-count in
+      (λ j. listed (λ i. candidate_in (dims-read j) (row (in_table (flat_map (candidate_words (dims_of s)) (take (candidate_count s) s.candidates))) (dims-least j) i)) (c j) 0)
       ∙ rows_back (candidate_words (dims_of s)) (candidate_in (dims_of s)) (length (dims_of s)) (take (candidate_count s) s.candidates) _ candidates-return
 
   parents-read : (k : ℕ) → k ≡ parent_count s
@@ -139,8 +141,8 @@ module _ (s : State) (e : sound_state s ≡ true) (p : TypedState s) where
   unfolding parents_words
   parents-read k q =
       let c : min k 160 ≡ length (take (parent_count s) s.parents) =
-      ap (λ (n : ℕ). min n 160) q ∙ min-is (parent_count s) 160 (few-parents s (measured-of s p) (sound-few s e (measured-of s p))) ∙ sym parents-count in
-      (λ j. listed (λ i. member_in (dims-read j) (row (in_table (joined (member_words (dims_of s)) (take (parent_count s) s.parents))) (dims-least j + 1) i)) (c j) 0)
+      ap (λ (n : ℕ). min n 160) q ∙ min-is (parent_count s) 160 (few-parents s (sound-few s e (measured-of s p))) ∙ sym parents-count in
+      (λ j. listed (λ i. member_in (dims-read j) (row (in_table (flat_map (member_words (dims_of s)) (take (parent_count s) s.parents))) (dims-least j + 1) i)) (c j) 0)
       ∙ rows_back (member_words (dims_of s)) (member_in (dims_of s)) (length (dims_of s) + 1) (take (parent_count s) s.parents) _ parents-return
 
   -- ---- unused places
@@ -168,7 +170,7 @@ module _ (s : State) (e : sound_state s ≡ true) (p : TypedState s) where
       let closed = small-back s.closed (measured-of s p).closed in
       λ i. record {
         setup = setup-back s.setup (replicate (3600 - length (setup_words s.setup)) 0) p.factor p.rate i;
-        first = first_back s.first i;
+        first = option_back s.first i;
         discovered = flag-back s.discovered i;
         n = s.n;
         n_dims = s.n_dims;

@@ -1,4 +1,5 @@
 -- Every word of a sound state of the machine has 64 bits.
+use Rattle.std.specs.Prelude.{Option, Some, None, is_some, IfSome}
 use Prim.Native.Nat.{ℕ, ◌^◌, ◌<◌}
 use native.Mathlib.Omega.{arith}
 use mathlib.Core.Path.{◌≡◌, refl, sym, subst}
@@ -14,30 +15,23 @@ use lib.ListN.{take, drop, get_or}
 use Rattle.distribution.specs.Dims.{is_continuous}
 use Rattle.distribution.specs.declared.DimensionInfo.{DimensionInfo}
 use Rattle.distribution.specs.declared.Distribution.{Distribution}
-use Rattle.distribution.specs.declared.FloatStep.{FloatStep}
-use Rattle.distribution.specs.declared.IntStep.{IntStep}
 use Rattle.distribution.specs.declared.Distribution.TheVariants as D
-use Rattle.distribution.specs.declared.FloatStep.TheVariants as FS
-use Rattle.distribution.specs.declared.IntStep.TheVariants as IS
 use Rattle.common.proofs.PlaceLaws.{place-le}
 use Rattle.ledger.specs.Words.{All}
 use Rattle.candidates.specs.declared.Candidate.{Candidate}
 use Rattle.evolution.specs.declared.DEStrategy.{DEStrategy}
 use Rattle.evolution.specs.declared.DEStrategy.TheVariants.{Rand1, Best1, CurrentToBest1}
 use Rattle.evolution.specs.declared.Member.{Member}
-use Rattle.evolution.specs.declared.PopulationSize.{PopulationSize}
-use Rattle.evolution.specs.declared.PopulationSize.TheVariants.{Unset, Of}
 use Rattle.state.specs.Sound.{sound_state}
 use Rattle.state.specs.View.{candidate_count, parent_count}
-use Rattle.state.specs.declared.FirstTrial.{FirstTrial}
-use Rattle.state.specs.declared.FirstTrial.TheVariants.{Unnamed, Named}
 use Rattle.state.specs.declared.State.{State}
 use Rattle.state.specs.declared.TrialProgress.{TrialProgress}
 use Rattle.records.proofs.Lists.{both, all_take}
 use Rattle.records.proofs.Fits.{Small}
-use Rattle.kinds.specs.Rows.{double_word, whole_word, flag, strategy_word, sized_word, setup_words, named_word, float_words, int_words, dim_words, trial_words, vector_words, candidate_words, member_words}
-use Rattle.kinds.specs.Kinds.{joined, dims_of, kind_words, count_words, dims_words, trials_words, parents_words, candidates_words}
-use Rattle.kinds.specs.Typed.{Double, Whole, FloatStepFits, IntStepFits, TypedDistribution, Choices, Word, TypedState, TypedNumbers, TypedCandidate, TypedMember}
+use Rattle.kinds.specs.Rows.{double_word, whole_word, flag, strategy_word, setup_words, float_words, int_words, dim_words, trial_words, vector_words, candidate_words, member_words}
+use Rattle.std.specs.List.{flat_map}
+use Rattle.kinds.specs.Kinds.{dims_of, kind_words, count_words, dims_words, trials_words, parents_words, candidates_words}
+use Rattle.kinds.specs.Typed.{Double, Whole, TypedDistribution, Choices, Word, TypedState, TypedNumbers, TypedCandidate, TypedMember}
 use Rattle.kinds.proofs.Typed.{measured-of}
 
 -- ---- one word
@@ -64,23 +58,15 @@ strategy-word Rand1 = omega arith
 strategy-word Best1 = omega arith
 strategy-word CurrentToBest1 = omega arith
 
-sized-word : (z : PopulationSize) → Word (sized_word z)
-sized-word Unset = omega arith
-sized-word (Of n) = omega arith
-
-named-word : (z : FirstTrial) → Word (named_word z)
-named-word Unnamed = omega arith
-named-word (Named n) = omega arith
-
 -- ---- a dimension, an open trial
 
-float_small : (a b : Float) (s : FloatStep) → Double a → Double b → FloatStepFits s → Small (float_words a b s)
-float_small a b FS.Unset h k l = more (omega arith) (more (double-word a h) (more (double-word b k) (more (omega arith) (more (omega arith) none))))
-float_small a b (FS.By x) h k l = more (omega arith) (more (double-word a h) (more (double-word b k) (more (omega arith) (more (double-word x l) none))))
+float_small : (a b : Float) (s : Option Float) → Double a → Double b → IfSome s Double → Small (float_words a b s)
+float_small a b None h k l = more (omega arith) (more (double-word a h) (more (double-word b k) (more (omega arith) (more (omega arith) none))))
+float_small a b (Some x) h k l = more (omega arith) (more (double-word a h) (more (double-word b k) (more (omega arith) (more (double-word x l) none))))
 
-int_small : (a b : ℤ) (s : IntStep) → Whole a → Whole b → IntStepFits s → Small (int_words a b s)
-int_small a b IS.Unset h k l = more (omega arith) (more (whole-word a h) (more (whole-word b k) (more (omega arith) (more (omega arith) none))))
-int_small a b (IS.By x) h k l = more (omega arith) (more (whole-word a h) (more (whole-word b k) (more (omega arith) (more (whole-word x l) none))))
+int_small : (a b : ℤ) (s : Option ℤ) → Whole a → Whole b → IfSome s Whole → Small (int_words a b s)
+int_small a b None h k l = more (omega arith) (more (whole-word a h) (more (whole-word b k) (more (omega arith) (more (omega arith) none))))
+int_small a b (Some x) h k l = more (omega arith) (more (whole-word a h) (more (whole-word b k) (more (omega arith) (more (whole-word x l) none))))
 
 dim-small : (d : Distribution) → TypedDistribution d → Choices d → Small (dim_words (record { distribution = d }))
 unfolding dim_words
@@ -118,10 +104,9 @@ candidate-small ds c t = vector-small ds c.x c.choices t.doubles t.small
 member-small : (ds : List DimensionInfo) (m : Member) → TypedCandidate m.candidate × Double m.value → Small (member_words ds m)
 member-small ds m t = both (candidate_words ds m.candidate) (double_word m.value ∷ []) (candidate-small ds m.candidate t.0) (more (double-word m.value t.1) none)
 
-joined_small : {A : Type 0} (P : A → Type 0) (f : A → List ℕ) (xs : List A) → ((x : A) → P x → Small (f x)) → All P xs → Small (joined f xs)
-unfolding joined
-joined_small P f [] h k = none
-joined_small P f (x ∷ xs) h k = both (f x) (joined f xs) (h x (k x (Memᴰ.head refl))) (joined_small P f xs h (λ a m. k a (Memᴰ.tail m)))
+flat_map_small : {A : Type 0} (P : A → Type 0) (f : A → List ℕ) (xs : List A) → ((x : A) → P x → Small (f x)) → All P xs → Small (flat_map f xs)
+flat_map_small P f [] h k = none
+flat_map_small P f (x ∷ xs) h k = both (f x) (flat_map f xs) (h x (k x (Memᴰ.head refl))) (flat_map_small P f xs h (λ a m. k a (Memᴰ.tail m)))
 
 -- ---- the state
 
@@ -129,13 +114,13 @@ module _ (s : State) (e : sound_state s ≡ true) (p : TypedState s) (c : TypedN
   small-1 : Small (setup_words s.setup)
   unfolding setup_words
   small-1 =
-      more (double-word s.setup.mutation_factor p.factor) (more (double-word s.setup.crossover_rate p.rate) (more (strategy-word s.setup.strategy) (more (sized-word s.setup.population_size)
+      more (double-word s.setup.mutation_factor p.factor) (more (double-word s.setup.crossover_rate p.rate) (more (strategy-word s.setup.strategy) (more (flag_word (is_some s.setup.population_size))
       (more (let h = c.size in omega arith) (more (let h = c.seed in omega arith) none)))))
 
   small-2 : Small (count_words s)
   unfolding count_words
   small-2 =
-      more (named-word s.first) (more (let h = c.first in omega arith) (more (flag_word s.discovered) (more (let h = c.n in omega arith) (more (let h = c.dims in omega arith)
+      more (flag_word (is_some s.first)) (more (let h = c.first in omega arith) (more (flag_word s.discovered) (more (let h = c.n in omega arith) (more (let h = c.dims in omega arith)
       (more (let h = c.trials in omega arith) (more (let h = (measured-of s p).closed in omega arith) (more (let h = (measured-of s p).idle in omega arith) (more (let h = c.best in omega arith) (more (let h = c.word in omega arith) none)))))))))
 
   abbrev TypedDim : DimensionInfo → Type 0
@@ -143,7 +128,7 @@ module _ (s : State) (e : sound_state s ≡ true) (p : TypedState s) (c : TypedN
 
   small-3 : Small (dims_words s)
   unfolding dims_words
-  small-3 = joined_small TypedDim dim_words (dims_of s) (λ d t. dim-small d.distribution t.0 t.1) (all_take TypedDim s.n_dims s.dims (λ d m. (p.dims d m, c.choices d m)))
+  small-3 = flat_map_small TypedDim dim_words (dims_of s) (λ d t. dim-small d.distribution t.0 t.1) (all_take TypedDim s.n_dims s.dims (λ d m. (p.dims d m, c.choices d m)))
 
   abbrev TypedTrial : TrialProgress → Type 0
   TypedTrial t = (t.number < 2 ^ 64) × (t.next_dim < 2 ^ 64)
@@ -154,15 +139,15 @@ module _ (s : State) (e : sound_state s ≡ true) (p : TypedState s) (c : TypedN
 
   small-4 : Small (trials_words s)
   unfolding trials_words
-  small-4 = joined_small TypedTrial trial_words (take s.n_trials s.trials) trial-small (all_take TypedTrial s.n_trials s.trials c.numbers)
+  small-4 = flat_map_small TypedTrial trial_words (take s.n_trials s.trials) trial-small (all_take TypedTrial s.n_trials s.trials c.numbers)
 
   small-5 : Small (parents_words s)
   unfolding parents_words
-  small-5 = joined_small TypedMember (member_words (dims_of s)) (take (parent_count s) s.parents) (member-small (dims_of s)) (all_take TypedMember (parent_count s) s.parents p.parents)
+  small-5 = flat_map_small TypedMember (member_words (dims_of s)) (take (parent_count s) s.parents) (member-small (dims_of s)) (all_take TypedMember (parent_count s) s.parents p.parents)
 
   small-6 : Small (candidates_words s)
   unfolding candidates_words
-  small-6 = joined_small TypedCandidate (candidate_words (dims_of s)) (take (candidate_count s) s.candidates) (candidate-small (dims_of s)) (all_take TypedCandidate (candidate_count s) s.candidates p.candidates)
+  small-6 = flat_map_small TypedCandidate (candidate_words (dims_of s)) (take (candidate_count s) s.candidates) (candidate-small (dims_of s)) (all_take TypedCandidate (candidate_count s) s.candidates p.candidates)
 
   either : (b : Bool) (x y : List ℕ) → Small x → Small y → Small (cond b x y)
   either true x y h k = h

@@ -1,4 +1,5 @@
 -- What the types of a state's fields say: arrays of their length, doubles, numbers of 64 bits. A function knows it of each State that it is handed, so a sound one that it is handed can be saved.
+use Rattle.std.specs.Prelude.{Option, Some, None, ℤ, unwrap_or, IfSome}
 use Prim.Native.Nat.{ℕ, ◌^◌, ◌<◌}
 use native.Mathlib.Omega.{arith}
 use mathlib.Core.Path.{◌≡◌, sym, subst}
@@ -9,68 +10,52 @@ use mir.Val.{Val}
 use denote.Laws.{Is}
 use denote.Array.{each}
 use denote.Shadow.{shadow}
-use denote.Builtin.{f64, u16}
+use denote.Builtin.{f64, i64, u16, u64}
 use denote.RattleType.{RattleType}
 use lib.Dec.{T}
 use lib.Ieee.{Float, binary64, fits as fits_f}
 use Rattle.distribution.specs.declared.DimensionInfo.{DimensionInfo}
 use Rattle.distribution.specs.declared.Distribution.{Distribution}
-use Rattle.distribution.specs.declared.FloatStep.{FloatStep}
-use Rattle.distribution.specs.declared.IntStep.{IntStep}
 use Rattle.distribution.specs.declared.Distribution.TheVariants as D
-use Rattle.distribution.specs.declared.FloatStep.TheVariants as FS
-use Rattle.distribution.specs.declared.IntStep.TheVariants as IS
 use Rattle.distribution.specs.contracts.DimensionInfo as DI
 use Rattle.distribution.specs.contracts.Distribution as DD
-use Rattle.distribution.specs.contracts.FloatStep as DF
-use Rattle.distribution.specs.contracts.IntStep as DN
+use Rattle.std.specs.contracts.option.Option as O
 use Rattle.ledger.specs.Words.{All}
 use Rattle.candidates.specs.declared.Candidate.{Candidate}
 use Rattle.candidates.specs.contracts.Candidate as C
 use Rattle.evolution.specs.declared.Member.{Member}
-use Rattle.evolution.specs.declared.PopulationSize.{PopulationSize}
-use Rattle.evolution.specs.declared.PopulationSize.TheVariants.{Unset, Of}
 use Rattle.evolution.specs.declared.Setup.{Setup}
 use Rattle.evolution.specs.contracts.Member as M
-use Rattle.evolution.specs.contracts.PopulationSize as PS
 use Rattle.evolution.specs.contracts.Setup as SU
-use Rattle.state.specs.declared.FirstTrial.{FirstTrial}
-use Rattle.state.specs.declared.FirstTrial.TheVariants.{Unnamed, Named}
 use Rattle.state.specs.declared.State.{State}
 use Rattle.state.specs.declared.TrialProgress.{TrialProgress}
 use Rattle.state.proofs.Measured.{Sized, measured}
-use Rattle.state.specs.contracts.FirstTrial as FT
 use Rattle.state.specs.contracts.State as S
 use Rattle.state.specs.contracts.TrialProgress as T
-use Rattle.kinds.specs.Typed.{Double, FloatStepFits, IntStepFits, TypedDistribution, Choices, TypedState, TypedNumbers, TypedCandidate, TypedSetup}
-use Rattle.kinds.specs.Rows.{first_word, size_word}
+use Rattle.kinds.specs.Typed.{Double, Whole, TypedDistribution, Choices, TypedState, TypedNumbers, TypedCandidate, TypedSetup}
 
-each-field : (R : RattleType) (P : R.Denot → Type 0) → ((x : R.Denot) (vs : List Val) → Is R x vs → P x)
+pub each-field : (R : RattleType) (P : R.Denot → Type 0) → ((x : R.Denot) (vs : List Val) → Is R x vs → P x)
     → (xs : List R.Denot) (us : List Val) → shadow (each R.Denot R.own_val xs us) → All P xs
 each-field R P h [] us p a m = elim m [ ]
 each-field R P h (x ∷ xs) [] p a m = absurd p
 each-field R P h (x ∷ xs) (u ∷ us) p a (Memᴰ.head e) = subst P (sym e) (h x (u ∷ []) p.0)
 each-field R P h (x ∷ xs) (u ∷ us) p a (Memᴰ.tail m) = each-field R P h xs us p.1 a m
 
-first_small : (z : FirstTrial) (vs : List Val) → Is (FT.the_field).row ((FT.the_field).into z) vs → first_word z < 2 ^ 64
-first_small Unnamed vs p = omega arith
-first_small (Named n) vs p = let h = p.1.1.0.1 in omega arith
-
-size_small : (z : PopulationSize) (vs : List Val) → Is (PS.the_field).row ((PS.the_field).into z) vs → size_word z < 2 ^ 64
-size_small Unset vs p = omega arith
-size_small (Of n) vs p = let h = p.1.1.0.1 in omega arith
+option_small : (z : Option ℕ) (vs : List Val) → Is (O.the_field u64).row ((O.the_field u64).into z) vs → unwrap_or z 0 < 2 ^ 64
+option_small None vs p = omega arith
+option_small (Some n) vs p = let h = p.1.1.0.1 in omega arith
 
 -- a double of the machine
 pub double : (x : Float) → fits_f binary64 x ≡ true → Double x
 double x e = subst T (sym e) tt
 
-float-step : (s : FloatStep) (vs : List Val) → Is (DF.the_field).row ((DF.the_field).into s) vs → FloatStepFits s
-float-step FS.Unset vs p = tt
-float-step (FS.By x) vs p = double x p.1.1.1.1.0.1
+float-step : (s : Option Float) (vs : List Val) → Is (O.the_field f64).row ((O.the_field f64).into s) vs → IfSome s Double
+float-step None vs p = tt
+float-step (Some x) vs p = double x p.1.1.1.1.0.1
 
-int-step : (s : IntStep) (vs : List Val) → Is (DN.the_field).row ((DN.the_field).into s) vs → IntStepFits s
-int-step IS.Unset vs p = tt
-int-step (IS.By x) vs p = p.1.1.1.1.0.1
+int-step : (s : Option ℤ) (vs : List Val) → Is (O.the_field i64).row ((O.the_field i64).into s) vs → IfSome s Whole
+int-step None vs p = tt
+int-step (Some x) vs p = p.1.1.1.1.0.1
 
 pub distribution : (d : Distribution) (vs : List Val) → Is (DD.the_field).row ((DD.the_field).into d) vs → TypedDistribution d
 distribution (D.Float d) vs p = let q = p.1.1.1.1.0.1.1 in (double d.low q.0.1, double d.high q.1.0.1, float-step d.step _ q.1.1.1.0)
@@ -128,9 +113,9 @@ module _ (s : State) (vs : List Val) (p : Is S.the_row s vs) where
       let trials = dims.1.1.1 in
       let best = trials.1.1 in
       record {
-        size = size_small s.setup.population_size _ setup.0.1.1.1.1.1.0;
+        size = option_small s.setup.population_size _ setup.0.1.1.1.1.1.0;
         seed = let h = setup.0.1.1.1.1.1.1.0.1 in omega arith;
-        first = first_small s.first _ first.0;
+        first = option_small s.first _ first.0;
         n = let h = n.0.1 in omega arith;
         dims = let h = n.1.0.1 in omega arith;
         trials = let h = trials.0.1 in omega arith;
@@ -149,6 +134,6 @@ typed-setup S vs p =
     record {
       factor = double S.mutation_factor fields.0.1;
       rate = double S.crossover_rate fields.1.0.1;
-      size = size_small S.population_size _ fields.1.1.1.0;
+      size = option_small S.population_size _ fields.1.1.1.0;
       seed = let h = fields.1.1.1.1.0.1 in omega arith;
     }

@@ -1,16 +1,12 @@
 -- The six kinds of records, and the words of each: docs/SAVED.md, "The six kinds".
-use Rattle.std.specs.Prelude.{ℕ, ◌≤◌, List, [], ◌∷◌, ◌++◌, cond, take, length, eqb}
-use Rattle.rng_util.specs.Many.{pad_to}
+use Rattle.std.specs.Prelude.{ℕ, ◌≤◌, List, [], ◌∷◌, cond, take, eqb, is_some, unwrap_or}
+use Rattle.std.specs.List.{flat_map}
 use Rattle.distribution.specs.declared.DimensionInfo.{DimensionInfo}
 use Rattle.state.specs.View.{candidate_count, parent_count}
 use Rattle.state.specs.declared.State.{State}
-use Rattle.kinds.specs.Rows.{candidate_words, dim_words, first_word, flag, named_word, member_words, setup_words, trial_words}
-use Rattle.kinds.specs.declared.Section.{Section}
-
--- the words of several parts, in order
-unfoldable pub joined : {A : Type 0} → (A → List ℕ) → List A → List ℕ
-joined f [] = []
-joined f (x ∷ xs) = f x ++ joined f xs
+use Rattle.kinds.specs.Rows.{candidate_words, dim_words, flag, member_words, setup_words, trial_words}
+use Rattle.kinds.specs.declared.kind.Kind.{Kind}
+use Rattle.kinds.specs.declared.kind.Kind.TheVariants as K
 
 -- the dimensions in use
 abbrev pub dims_of : State → List DimensionInfo
@@ -19,8 +15,8 @@ dims_of s = take s.n_dims s.dims
 -- kind 2: whether there is a first trial, its number, whether discovery has ended, N, D, open trials, closed and idle generations, best slot, generator word
 unfoldable pub count_words : State → List ℕ
 count_words s =
-    named_word s.first
-    ∷ first_word s.first
+    flag (is_some s.first)
+    ∷ unwrap_or s.first 0
     ∷ flag s.discovered
     ∷ s.n
     ∷ s.n_dims
@@ -33,16 +29,25 @@ count_words s =
 
 -- kinds 3 to 6: the dimensions, the open trials, the parents, the candidates: those in use, in order
 unfoldable pub dims_words : State → List ℕ
-dims_words s = joined dim_words (dims_of s)
+dims_words s = flat_map dim_words (dims_of s)
 
 unfoldable pub trials_words : State → List ℕ
-trials_words s = joined trial_words (take s.n_trials s.trials)
+trials_words s = flat_map trial_words (take s.n_trials s.trials)
 
 unfoldable pub parents_words : State → List ℕ
-parents_words s = joined (member_words (dims_of s)) (take (parent_count s) s.parents)
+parents_words s = flat_map (member_words (dims_of s)) (take (parent_count s) s.parents)
 
 unfoldable pub candidates_words : State → List ℕ
-candidates_words s = joined (candidate_words (dims_of s)) (take (candidate_count s) s.candidates)
+candidates_words s = flat_map (candidate_words (dims_of s)) (take (candidate_count s) s.candidates)
+
+-- the kinds' numbers
+abbrev pub kind_number : Kind → ℕ
+kind_number K.Setup = 1
+kind_number K.Counts = 2
+kind_number K.Dimensions = 3
+kind_number K.Trials = 4
+kind_number K.Parents = 5
+kind_number K.Candidates = 6
 
 -- the table of kinds, 1 being the set-up: a kind that is none of the six has no words
 unfoldable pub kind_words : State → ℕ → List ℕ
@@ -53,10 +58,6 @@ kind_words s kind =
     (cond (eqb kind 4) (trials_words s)
     (cond (eqb kind 5) (parents_words s)
     (cond (eqb kind 6) (candidates_words s) [])))))
-
--- a kind's words as the code has them: in an array, and how many they are
-abbrev pub section_for : List ℕ → Section
-section_for ws = record { words = pad_to 3600 0 ws; n = length ws }
 
 -- the counts of a state are places of its arrays: so it is of every sound state
 pub record Roomy (s : State) : Type 0 where

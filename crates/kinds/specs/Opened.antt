@@ -1,12 +1,13 @@
 -- The state that the words of the six kinds stand for, whether sound or not.
-use Rattle.std.specs.Prelude.{ℕ, ◌+◌, ◌*◌, ◌%◌, ◌^◌, min, max, List, cond, take, drop, get_or, eqb}
+use Rattle.std.specs.Prelude.{ℕ, ◌+◌, ◌*◌, ◌%◌, ◌^◌, min, max, List, [], cond, take, drop, get_or, eqb}
 use Rattle.rng_util.specs.Many.{pad_to, listed}
 use Rattle.distribution.specs.declared.DimensionInfo.{DimensionInfo}
 use Rattle.candidates.specs.Candidate.{blank_candidate}
 use Rattle.selection.specs.Records.{blank_member}
 use Rattle.state.specs.declared.State.{State}
 use Rattle.state.specs.Blank.{blank_dim, blank_trial}
-use Rattle.kinds.specs.Rows.{candidate_in, dim_in, member_in, setup_in, trial_in, word_first}
+use Rattle.records.specs.declared.Table.{Table}
+use Rattle.kinds.specs.Rows.{candidate_in, dim_in, member_in, setup_in, trial_in, word_option}
 
 -- the i-th part of so many words
 abbrev pub row : List ℕ → ℕ → ℕ → List ℕ
@@ -27,7 +28,7 @@ state_in us ns ds ts ps cs =
     let parents = cond (eqb closed 0) 0 (get_or ns 3 0) in
     record {
       setup = setup_in us;
-      first = word_first (get_or ns 0 0) (get_or ns 1 0);
+      first = word_option (get_or ns 0 0) (get_or ns 1 0);
       discovered = discovered;
       n = get_or ns 3 0;
       n_dims = get_or ns 4 0;
@@ -41,3 +42,10 @@ state_in us ns ds ts ps cs =
       closed = closed;
       idle = get_or ns 7 0 % 2 ^ 32;
     }
+
+-- the same, of six tables in the order of their kinds
+abbrev pub words_at : List Table → ℕ → List ℕ
+words_at ts k = (get_or ts k (record { words = []; filled = [] })).words
+
+abbrev pub state_of : List Table → State
+state_of ts = state_in (words_at ts 0) (words_at ts 1) (words_at ts 2) (words_at ts 3) (words_at ts 4) (words_at ts 5)

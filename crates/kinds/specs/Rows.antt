@@ -1,5 +1,6 @@
 -- The words of each part of a state, and each part from its words. A double is its bit pattern; a whole number has 2^63 added to it.
-use Rattle.std.specs.Prelude.{ℕ, ◌^◌, ◌%◌, Bool, true, false, cond, List, [], ◌∷◌, ◌++◌, eqb, Float, ℤ, length, drop, get_or}
+use Rattle.std.specs.Prelude.{ℕ, ◌^◌, ◌%◌, Bool, true, false, cond, List, [], ◌∷◌, ◌++◌, eqb, Float, ℤ, length, drop, get_or, Option, Some, None, is_some, unwrap_or, option_map}
+use Rattle.std.specs.Option.{option_map_or}
 use Rattle.std.specs.Float.{nan, binary64}
 use Rattle.std.specs.Float.Ieee.{to_bits, of_bits}
 use Rattle.distribution.specs.Dims.{is_continuous}
@@ -7,22 +8,14 @@ use Rattle.distribution.specs.declared.DimensionInfo.{DimensionInfo}
 use Rattle.distribution.specs.declared.Distribution.{Distribution}
 use Rattle.distribution.specs.declared.FloatDistribution.{FloatDistribution}
 use Rattle.distribution.specs.declared.IntDistribution.{IntDistribution}
-use Rattle.distribution.specs.declared.FloatStep.{FloatStep}
-use Rattle.distribution.specs.declared.IntStep.{IntStep}
 use Rattle.distribution.specs.declared.Distribution.TheVariants as D
-use Rattle.distribution.specs.declared.FloatStep.TheVariants as FS
-use Rattle.distribution.specs.declared.IntStep.TheVariants as IS
 use Rattle.common.specs.Places.{place_of, at_place}
 use Rattle.candidates.specs.Candidate.{packed}
 use Rattle.candidates.specs.declared.Candidate.{Candidate}
 use Rattle.evolution.specs.declared.DEStrategy.{DEStrategy}
 use Rattle.evolution.specs.declared.DEStrategy.TheVariants.{Rand1, Best1, CurrentToBest1}
 use Rattle.evolution.specs.declared.Member.{Member}
-use Rattle.evolution.specs.declared.PopulationSize.{PopulationSize}
-use Rattle.evolution.specs.declared.PopulationSize.TheVariants.{Unset, Of}
 use Rattle.evolution.specs.declared.Setup.{Setup}
-use Rattle.state.specs.declared.FirstTrial.{FirstTrial}
-use Rattle.state.specs.declared.FirstTrial.TheVariants.{Unnamed, Named}
 use Rattle.state.specs.declared.TrialProgress.{TrialProgress}
 
 abbrev pub double_word : Float → ℕ
@@ -41,6 +34,10 @@ abbrev pub flag : Bool → ℕ
 flag true = 1
 flag false = 0
 
+-- a value that there may be, as a flag and a word: `flag (is_some o)`, and its own word, 0 where there is none
+abbrev pub word_option : ℕ → ℕ → Option ℕ
+word_option set w = cond (eqb set 0) None (Some w)
+
 -- ---- the set-up: F, CR, strategy (0 rand1, 1 best1, 2 current-to-best1), whether a size is set, the size, the seed
 
 abbrev pub strategy_word : DEStrategy → ℕ
@@ -51,24 +48,13 @@ strategy_word CurrentToBest1 = 2
 abbrev pub word_strategy : ℕ → DEStrategy
 word_strategy w = cond (eqb w 0) Rand1 (cond (eqb w 1) Best1 CurrentToBest1)
 
-abbrev pub sized_word : PopulationSize → ℕ
-sized_word Unset = 0
-sized_word (Of n) = 1
-
-abbrev pub size_word : PopulationSize → ℕ
-size_word Unset = 0
-size_word (Of n) = n
-
-abbrev pub word_size : ℕ → ℕ → PopulationSize
-word_size sized n = cond (eqb sized 0) Unset (Of n)
-
 unfoldable pub setup_words : Setup → List ℕ
 setup_words S =
     double_word S.mutation_factor
     ∷ double_word S.crossover_rate
     ∷ strategy_word S.strategy
-    ∷ sized_word S.population_size
-    ∷ size_word S.population_size
+    ∷ flag (is_some S.population_size)
+    ∷ unwrap_or S.population_size 0
     ∷ S.seed
     ∷ []
 
@@ -78,33 +64,18 @@ setup_in ws =
       mutation_factor = word_double (get_or ws 0 0);
       crossover_rate = word_double (get_or ws 1 0);
       strategy = word_strategy (get_or ws 2 0);
-      population_size = word_size (get_or ws 3 0) (get_or ws 4 0);
+      population_size = word_option (get_or ws 3 0) (get_or ws 4 0);
       seed = get_or ws 5 0;
     }
-
--- ---- a first trial's number, and whether there is one
-
-abbrev pub named_word : FirstTrial → ℕ
-named_word Unnamed = 0
-named_word (Named n) = 1
-
-abbrev pub first_word : FirstTrial → ℕ
-first_word Unnamed = 0
-first_word (Named n) = n
-
-abbrev pub word_first : ℕ → ℕ → FirstTrial
-word_first named n = cond (eqb named 0) Unnamed (Named n)
 
 -- ---- a dimension: 1 float, low, high, whether it has a step, the step; 2 int, likewise; 3 categorical, its number of choices. Unused words are 0.
 -- There is no place for a log flag: no sound state has one.
 
-abbrev pub float_words : Float → Float → FloatStep → List ℕ
-float_words low high FS.Unset = 1 ∷ double_word low ∷ double_word high ∷ 0 ∷ 0 ∷ []
-float_words low high (FS.By x) = 1 ∷ double_word low ∷ double_word high ∷ 1 ∷ double_word x ∷ []
+abbrev pub float_words : Float → Float → Option Float → List ℕ
+float_words low high step = 1 ∷ double_word low ∷ double_word high ∷ flag (is_some step) ∷ option_map_or double_word step 0 ∷ []
 
-abbrev pub int_words : ℤ → ℤ → IntStep → List ℕ
-int_words low high IS.Unset = 2 ∷ whole_word low ∷ whole_word high ∷ 0 ∷ 0 ∷ []
-int_words low high (IS.By x) = 2 ∷ whole_word low ∷ whole_word high ∷ 1 ∷ whole_word x ∷ []
+abbrev pub int_words : ℤ → ℤ → Option ℤ → List ℕ
+int_words low high step = 2 ∷ whole_word low ∷ whole_word high ∷ flag (is_some step) ∷ option_map_or whole_word step 0 ∷ []
 
 abbrev pub distribution_words : Distribution → List ℕ
 distribution_words (D.Float d) = float_words d.low d.high d.step
@@ -114,17 +85,23 @@ distribution_words (D.Categorical d) = 3 ∷ d.n_choices ∷ 0 ∷ 0 ∷ 0 ∷ [
 unfoldable pub dim_words : DimensionInfo → List ℕ
 dim_words d = distribution_words d.distribution
 
-abbrev pub word_float_step : ℕ → ℕ → FloatStep
-word_float_step stepped w = cond (eqb stepped 0) FS.Unset (FS.By (word_double w))
-
-abbrev pub word_int_step : ℕ → ℕ → IntStep
-word_int_step stepped w = cond (eqb stepped 0) IS.Unset (IS.By (word_whole w))
-
 abbrev pub float_in : ℕ → ℕ → ℕ → ℕ → FloatDistribution
-float_in low high stepped by = record { low = word_double low; high = word_double high; log_scale = false; step = word_float_step stepped by }
+float_in low high stepped by =
+    record {
+      low = word_double low;
+      high = word_double high;
+      log_scale = false;
+      step = option_map word_double (word_option stepped by);
+    }
 
 abbrev pub int_in : ℕ → ℕ → ℕ → ℕ → IntDistribution
-int_in low high stepped by = record { low = word_whole low; high = word_whole high; log_scale = false; step = word_int_step stepped by }
+int_in low high stepped by =
+    record {
+      low = word_whole low;
+      high = word_whole high;
+      log_scale = false;
+      step = option_map word_whole (word_option stepped by);
+    }
 
 abbrev pub distribution_in : ℕ → ℕ → ℕ → ℕ → ℕ → Distribution
 distribution_in case low high stepped by =

@@ -1,23 +1,18 @@
 -- What the types say: arrays of their length, doubles, numbers of so many bits. The mathematics' numbers have no bounds and its doubles more values; of each
 -- state, set-up and call that the code is handed this holds.
-use Rattle.std.specs.Prelude.{ℕ, ◌<◌, ◌^◌, ◌≡◌, length, Float, ℤ, T}
+use Rattle.std.specs.Prelude.{ℕ, ◌<◌, ◌^◌, ◌≡◌, length, Float, ℤ, T, unwrap_or, IfSome}
 use Rattle.std.specs.Float.{binary64}
 use Rattle.std.specs.Float.Ieee.{fits as fits_f}
 use Rattle.std.specs.Int.Signed.{mag}
 use Rattle.distribution.specs.declared.DimensionInfo.{DimensionInfo}
 use Rattle.distribution.specs.declared.Distribution.{Distribution}
-use Rattle.distribution.specs.declared.FloatStep.{FloatStep}
-use Rattle.distribution.specs.declared.IntStep.{IntStep}
 use Rattle.distribution.specs.declared.Distribution.TheVariants as D
-use Rattle.distribution.specs.declared.FloatStep.TheVariants as FS
-use Rattle.distribution.specs.declared.IntStep.TheVariants as IS
 use Rattle.ledger.specs.Words.{All}
 use Rattle.candidates.specs.declared.Candidate.{Candidate}
 use Rattle.evolution.specs.declared.Member.{Member}
 use Rattle.evolution.specs.declared.Setup.{Setup}
 use Rattle.state.specs.declared.TrialProgress.{TrialProgress}
 use Rattle.state.specs.declared.State.{State}
-use Rattle.kinds.specs.Rows.{first_word, size_word}
 
 -- a double, not only a value of the mathematics
 abbrev pub Double : Float → Type 0
@@ -32,17 +27,9 @@ Word w = w < 2 ^ 64
 
 -- ---- a distribution
 
-abbrev pub FloatStepFits : FloatStep → Type 0
-FloatStepFits FS.Unset = Unit {0}
-FloatStepFits (FS.By x) = Double x
-
-abbrev pub IntStepFits : IntStep → Type 0
-IntStepFits IS.Unset = Unit {0}
-IntStepFits (IS.By x) = Whole x
-
 abbrev pub TypedDistribution : Distribution → Type 0
-TypedDistribution (D.Float d) = Double d.low × Double d.high × FloatStepFits d.step
-TypedDistribution (D.Int d) = Whole d.low × Whole d.high × IntStepFits d.step
+TypedDistribution (D.Float d) = Double d.low × Double d.high × IfSome d.step Double
+TypedDistribution (D.Int d) = Whole d.low × Whole d.high × IfSome d.step Whole
 TypedDistribution (D.Categorical d) = Unit {0}
 
 -- and its number of choices
@@ -56,7 +43,7 @@ Choices (D.Categorical d) = d.n_choices < 2 ^ 64
 pub record TypedSetup (S : Setup) : Type 0 where
   pub factor : Double S.mutation_factor
   pub rate : Double S.crossover_rate
-  pub size : Word (size_word S.population_size)
+  pub size : Word (unwrap_or S.population_size 0)
   pub seed : Word S.seed
 
 -- ---- a state
@@ -86,9 +73,9 @@ pub record TypedState (s : State) : Type 0 where
 
 -- its other numbers
 pub record TypedNumbers (s : State) : Type 0 where
-  pub size : Word (size_word s.setup.population_size)
+  pub size : Word (unwrap_or s.setup.population_size 0)
   pub seed : Word s.setup.seed
-  pub first : Word (first_word s.first)
+  pub first : Word (unwrap_or s.first 0)
   pub n : Word s.n
   pub dims : Word s.n_dims
   pub trials : Word s.n_trials

@@ -1,189 +1,94 @@
 // The words of each kind.
-ghost use Rattle.std.specs.Prelude.{◌≡◌, ◌+◌, ◌≤◌, ◌<◌, length, take};
-ghost use Rattle.std.proofs.Math.Seq.{paste};
-ghost use Rattle.rng_util.specs.Many.{pad_to};
-ghost use Rattle.kinds.specs.Rows.{setup_words, dim_words, trial_words, candidate_words, member_words};
-ghost use Rattle.kinds.specs.Kinds.{joined, count_words, kind_words, section_for, Roomy};
+ghost use Rattle.std.specs.Prelude.{◌≡◌, ◌+◌, ◌*◌, ◌≤◌, ◌++◌, length};
+ghost use Rattle.kinds.specs.Rows.{dim_words, trial_words, candidate_words, member_words};
+ghost use Rattle.std.specs.List.{flat_map};
+ghost use Rattle.kinds.specs.Kinds.{count_words, kind_number, kind_words, Roomy};
 
-use crate::Section;
-use crate::rows::{dim_row, first_word, flag_word, is_named, setup_row, trial_row};
-use crate::vectors::{member_row, vector_row};
+use crate::kind::Kind;
+use crate::rows::{dim_row, setup_row, trial_row};
+use crate::section::Section;
+use crate::vectors::{put_candidate, put_member};
 use candidates::Candidate;
 use distribution::DimensionInfo;
-use evolution::{Member, Setup};
+use evolution::Member;
 use state::sound::{candidate_count, parent_count};
 use state::{State, TrialProgress};
 
-// The row's words, from place `at` on.
-fn put_row(words: &mut [u64; 3600], at: usize, row: &[u64])
-    requires { (at + length row.now ≤ 3600) × (length words.old ≡ 3600) }
-    ensures { words.new ≡ paste words.old at row.now (length row.now) }
+#[tactic(auto, unfolding(crate::specs::Kinds::count_words))]
+fn count_row(s: &State) -> [u64; 10]
+    ensures { result ≡ count_words s.now }
 {
-    let mut j: usize = 0;
-    while j < row.len() {
-        words[at + j] = row[j];
-        j += 1;
-    }
-}
-
-fn setup_section(setup: Setup) -> [u64; 3600]
-    ensures { result ≡ pad_to 3600 0 (setup_words setup) }
-{
-    let mut words = [0u64; 3600];
-    let row = setup_row(setup);
-    put_row(&mut words, 0, &row);
-    words
-}
-
-fn count_row(s: State) -> [u64; 10]
-    ensures { result ≡ count_words s }
-{
-    let first = s.first;
     [
-        is_named(first),
-        first_word(first),
-        flag_word(s.discovered),
+        u64::from(s.first.is_some()),
+        s.first.unwrap_or(0),
+        u64::from(s.discovered),
         s.n as u64,
         s.n_dims as u64,
         s.n_trials as u64,
-        s.closed as u64,
-        s.idle as u64,
+        u64::from(s.closed),
+        u64::from(s.idle),
         s.best as u64,
         s.word,
     ]
 }
 
-fn counts_section(s: State) -> [u64; 3600]
-    ensures { result ≡ pad_to 3600 0 (count_words s) }
+fn put_dims(section: &mut Section, dims: &[DimensionInfo])
+    requires { length section.old + 5 * length dims.now ≤ 3600 }
+    ensures { section.new ≡ section.old ++ flat_map dim_words dims.now }
 {
-    let mut words = [0u64; 3600];
-    let row = count_row(s);
-    put_row(&mut words, 0, &row);
-    words
+    for d in dims {
+        section.extend_from_slice(&dim_row(*d));
+    }
 }
 
-fn dims_section(dims: [DimensionInfo; 16], n: usize) -> [u64; 3600]
-    requires { n ≤ 16 }
-    ensures { result ≡ pad_to 3600 0 (joined dim_words (take n dims)) }
+fn put_trials(section: &mut Section, trials: &[TrialProgress])
+    requires { length section.old + 2 * length trials.now ≤ 3600 }
+    ensures { section.new ≡ section.old ++ flat_map trial_words trials.now }
 {
-    let mut words = [0u64; 3600];
-    let mut at: usize = 0;
-    let mut i: usize = 0;
-    while i < n {
-        let d = dims[i];
-        let row = dim_row(d);
-        put_row(&mut words, at, &row);
-        at += 5;
-        i += 1;
+    for t in trials {
+        section.extend_from_slice(&trial_row(*t));
     }
-    words
 }
 
-fn trials_section(trials: [TrialProgress; 224], n: usize) -> [u64; 3600]
-    requires { n ≤ 224 }
-    ensures { result ≡ pad_to 3600 0 (joined trial_words (take n trials)) }
+fn put_parents(section: &mut Section, parents: &[Member], dims: &[DimensionInfo])
+    requires { (length dims.now ≤ 16) × (length section.old + (length dims.now + 1) * length parents.now ≤ 3600) }
+    ensures { section.new ≡ section.old ++ flat_map (member_words dims.now) parents.now }
 {
-    let mut words = [0u64; 3600];
-    let mut at: usize = 0;
-    let mut i: usize = 0;
-    while i < n {
-        let t = trials[i];
-        let row = trial_row(t);
-        put_row(&mut words, at, &row);
-        at += 2;
-        i += 1;
+    for m in parents {
+        put_member(section, m, dims);
     }
-    words
 }
 
-fn parents_section(
-    parents: [Member; 160],
-    n: usize,
-    dims: [DimensionInfo; 16],
-    n_dims: usize,
-) -> [u64; 3600]
-    requires { (n ≤ 160) × (n_dims ≤ 16) }
-    ensures { result ≡ pad_to 3600 0 (joined (member_words (take n_dims dims)) (take n parents)) }
+fn put_candidates(section: &mut Section, candidates: &[Candidate], dims: &[DimensionInfo])
+    requires { (length dims.now ≤ 16) × (length section.old + length dims.now * length candidates.now ≤ 3600) }
+    ensures { section.new ≡ section.old ++ flat_map (candidate_words dims.now) candidates.now }
 {
-    let mut words = [0u64; 3600];
-    let width = n_dims + 1;
-    let mut at: usize = 0;
-    let mut i: usize = 0;
-    while i < n {
-        let m = parents[i];
-        let row = member_row(m, dims, n_dims);
-        put_row(&mut words, at, &row[..width]);
-        at += width;
-        i += 1;
+    for c in candidates {
+        put_candidate(section, c, dims);
     }
-    words
 }
 
-fn candidates_section(
-    candidates: [Candidate; 224],
-    n: usize,
-    dims: [DimensionInfo; 16],
-    n_dims: usize,
-) -> [u64; 3600]
-    requires { (n ≤ 224) × (n_dims ≤ 16) }
-    ensures { result ≡ pad_to 3600 0 (joined (candidate_words (take n_dims dims)) (take n candidates)) }
+// The words of a kind.
+#[tactic(auto, unfolding(crate::specs::Kinds::kind_words, crate::specs::Kinds::dims_words, crate::specs::Kinds::trials_words, crate::specs::Kinds::parents_words, crate::specs::Kinds::candidates_words))]
+pub fn section_of(s: &State, kind: Kind) -> Section
+    requires { Roomy s.now }
+    ensures { result ≡ kind_words s.now (kind_number kind) }
 {
-    let mut words = [0u64; 3600];
-    let mut at: usize = 0;
-    let mut i: usize = 0;
-    while i < n {
-        let c = candidates[i];
-        let row = vector_row(c, dims, n_dims);
-        put_row(&mut words, at, &row[..n_dims]);
-        at += n_dims;
-        i += 1;
+    let dims = &s.dims[..s.n_dims];
+    let mut section = Section::new();
+    match kind {
+        Kind::Setup => section.extend_from_slice(&setup_row(s.setup)),
+        Kind::Counts => section.extend_from_slice(&count_row(s)),
+        Kind::Dimensions => put_dims(&mut section, dims),
+        Kind::Trials => put_trials(&mut section, &s.trials[..s.n_trials]),
+        Kind::Parents => {
+            let parents = &s.parents[..parent_count(s.closed, s.n)];
+            put_parents(&mut section, parents, dims);
+        }
+        Kind::Candidates => {
+            let count = candidate_count(s.discovered, s.n, s.n_trials);
+            put_candidates(&mut section, &s.candidates[..count], dims);
+        }
     }
-    words
-}
-
-// The section of a kind.
-pub fn section_of(s: State, kind: u64) -> Section
-    requires { Roomy s × (0 < kind) × (kind ≤ 6) }
-    ensures { result ≡ section_for (kind_words s kind) }
-{
-    let dims = s.dims;
-    let n_dims = s.n_dims;
-    if kind == 1 {
-        let setup = s.setup;
-        let words = setup_section(setup);
-        return Section { words, n: 6 };
-    }
-    if kind == 2 {
-        let words = counts_section(s);
-        return Section { words, n: 10 };
-    }
-    if kind == 3 {
-        let words = dims_section(dims, n_dims);
-        return Section {
-            words,
-            n: n_dims * 5,
-        };
-    }
-    if kind == 4 {
-        let trials = s.trials;
-        let n = s.n_trials;
-        let words = trials_section(trials, n);
-        return Section { words, n: n * 2 };
-    }
-    if kind == 5 {
-        let parents = s.parents;
-        let n = parent_count(s.closed, s.n);
-        let words = parents_section(parents, n, dims, n_dims);
-        return Section {
-            words,
-            n: n * (n_dims + 1),
-        };
-    }
-    let candidates = s.candidates;
-    let n = candidate_count(s.discovered, s.n, s.n_trials);
-    let words = candidates_section(candidates, n, dims, n_dims);
-    Section {
-        words,
-        n: n * n_dims,
-    }
+    section
 }

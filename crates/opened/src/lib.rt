@@ -1,140 +1,74 @@
 // The state that six tables of words stand for, whether sound or not.
 #![tactic(auto)]
 
-ghost use Rattle.std.specs.Prelude.{◌≡◌, ◌+◌, ◌≤◌, min, length, take};
-ghost use Rattle.rng_util.specs.Many.{pad_to, listed};
-ghost use Rattle.candidates.specs.Candidate.{blank_candidate};
-ghost use Rattle.selection.specs.Records.{blank_member};
-ghost use Rattle.state.specs.Blank.{blank_dim, blank_trial};
-ghost use Rattle.kinds.specs.Rows.{trial_in, candidate_in, member_in};
-ghost use Rattle.kinds.specs.Opened.{row, dim_at, state_in};
+ghost use Rattle.std.specs.Prelude.{◌≡◌, ℕ, List, ◌*◌, ◌≤◌, length};
+ghost use Rattle.rng_util.specs.Many.{listed, pad_to};
+ghost use Rattle.kinds.specs.Opened.{row, state_of};
 
-use candidates::{Candidate, blank_candidate};
+use candidates::Candidate;
 use distribution::{CategoricalDistribution, DimensionInfo, Distribution};
-use evolution::Member;
-use kinds::rows::{dim_in, setup_in, trial_in, word_first};
+use kinds::rows::{dim_in, setup_in, trial_in, word_option};
 use kinds::vectors::{candidate_in, member_in};
+use records::Table;
 use selection::blank_member;
 use state::sound::{candidate_count, parent_count};
 use state::{State, TrialProgress};
 
-fn least(a: usize, b: usize) -> usize
-    ensures { result ≡ min a b }
-{
-    if a < b { a } else { b }
-}
-
-fn open_dims(words: &[u64], n: usize) -> [DimensionInfo; 16]
-    requires { (n ≤ 16) × (3600 ≤ length words.now) }
-    ensures { result ≡ pad_to 16 blank_dim (listed (dim_at words.now) n 0) }
-{
-    let blank = DimensionInfo {
-        distribution: Distribution::Categorical(CategoricalDistribution { n_choices: 0 }),
-    };
-    let mut dims = [blank; 16];
-    let mut at: usize = 0;
-    let mut i: usize = 0;
-    while i < n {
-        let end = at + 5;
-        let d = dim_in(&words[at..end]);
-        dims[i] = d;
-        at = end;
-        i += 1;
-    }
-    dims
-}
-
-fn open_trials(words: &[u64], n: usize) -> [TrialProgress; 224]
-    requires { (n ≤ 224) × (3600 ≤ length words.now) }
-    ensures { result ≡ pad_to 224 blank_trial (listed (λ i. trial_in (row words.now 2 i)) n 0) }
-{
-    let blank = TrialProgress {
-        number: 0,
-        next_dim: 0,
-    };
-    let mut trials = [blank; 224];
-    let mut at: usize = 0;
-    let mut i: usize = 0;
-    while i < n {
-        let end = at + 2;
-        let t = trial_in(&words[at..end]);
-        trials[i] = t;
-        at = end;
-        i += 1;
-    }
-    trials
-}
-
-fn open_parents(words: &[u64], n: usize, dims: [DimensionInfo; 16], n_dims: usize) -> [Member; 160]
-    requires { (n ≤ 160) × (n_dims ≤ 16) × (3600 ≤ length words.now) }
-    ensures { result ≡ pad_to 160 blank_member (listed (λ i. member_in (take n_dims dims) (row words.now (n_dims + 1) i)) n 0) }
-{
-    let blank = blank_member();
-    let mut parents = [blank; 160];
-    let width = n_dims + 1;
-    let mut at: usize = 0;
-    let mut i: usize = 0;
-    while i < n {
-        let end = at + width;
-        let m = member_in(&words[at..end], dims, n_dims);
-        parents[i] = m;
-        at = end;
-        i += 1;
-    }
-    parents
-}
-
-fn open_candidates(
-    words: &[u64],
+// N items, the first `n` of them each from its row of `width` words; the others are blank.
+fn read_rows<T: Copy, const N: usize, F: Fn(&[u64]) -> T>(
+    blank: T,
     n: usize,
-    dims: [DimensionInfo; 16],
-    n_dims: usize,
-) -> [Candidate; 224]
-    requires { (n ≤ 224) × (n_dims ≤ 16) × (3600 ≤ length words.now) }
-    ensures { result ≡ pad_to 224 blank_candidate (listed (λ i. candidate_in (take n_dims dims) (row words.now n_dims i)) n 0) }
+    words: &[u64],
+    width: usize,
+    read: F,
+) -> [T; N]
+    ghost reads: { List ℕ → T }
+    requires few { n ≤ N }
+    requires room { n * width ≤ length words.now }
+    requires callable { (part : _) → length part.now ≡ width → F.pre read part }
+    requires gives { (part item : _) → F.post read part item → item ≡ reads part.now }
+    ensures { result ≡ pad_to N blank (listed (λ i. reads (row words.now width i)) n 0) }
 {
-    let blank = blank_candidate();
-    let mut candidates = [blank; 224];
-    let mut at: usize = 0;
-    let mut i: usize = 0;
-    while i < n {
-        let end = at + n_dims;
-        let c = candidate_in(&words[at..end], dims, n_dims);
-        candidates[i] = c;
-        at = end;
-        i += 1;
+    let mut items = [blank; N];
+    for i in 0..n {
+        items[i] = read(&words[i * width..(i + 1) * width]);
     }
-    candidates
+    items
 }
 
 // The state of six tables, in the order of their kinds.
-pub fn state_in(
-    us: &[u64; 3600],
-    ns: &[u64; 3600],
-    ds: &[u64; 3600],
-    ts: &[u64; 3600],
-    ps: &[u64; 3600],
-    cs: &[u64; 3600],
-) -> State
-    ensures { result ≡ state_in us.now ns.now ds.now ts.now ps.now cs.now }
+pub fn state_in(tables: &[Table; 6]) -> State
+    ensures { result ≡ state_of tables.now }
 {
-    let setup = setup_in(us);
-    let first = word_first(ns[0], ns[1]);
+    let [us, ns, ds, ts, ps, cs] = tables;
+    let ns = &ns.words;
     let discovered = ns[2] == 1;
     let n = ns[3] as usize;
     let n_dims = ns[4] as usize;
     let n_trials = ns[5] as usize;
     let closed = (ns[6] % 4294967296) as u32;
-    let idle = (ns[7] % 4294967296) as u32;
-    let d = least(n_dims, 16);
-    let dims = open_dims(ds, d);
-    let trials = open_trials(ts, least(n_trials, 224));
-    let parents = open_parents(ps, least(parent_count(closed, n), 160), dims, d);
-    let n_candidates = candidate_count(discovered, n, n_trials);
-    let candidates = open_candidates(cs, least(n_candidates, 224), dims, d);
+    let blank_dim = DimensionInfo {
+        distribution: Distribution::Categorical(CategoricalDistribution { n_choices: 0 }),
+    };
+    let blank_trial = TrialProgress {
+        number: 0,
+        next_dim: 0,
+    };
+    let d = n_dims.min(16);
+    let n_parents = parent_count(closed, n).min(160);
+    let n_candidates = candidate_count(discovered, n, n_trials).min(224);
+    prove!(n_parents * (d + 1) <= 3600);
+    prove!(n_candidates * d <= 3600);
+    let dims: [DimensionInfo; 16] = read_rows(blank_dim, d, &ds.words, 5, dim_in);
+    let used = &dims[..d];
+    let trials = read_rows(blank_trial, n_trials.min(224), &ts.words, 2, trial_in);
+    let parent = |row: &[u64]| member_in(row, used);
+    let parents = read_rows(blank_member(), n_parents, &ps.words, d + 1, parent);
+    let candidate = |row: &[u64]| candidate_in(row, used);
+    let candidates = read_rows(Candidate::blank(), n_candidates, &cs.words, d, candidate);
     State {
-        setup,
-        first,
+        setup: setup_in(&us.words),
+        first: word_option(ns[0], ns[1]),
         discovered,
         n,
         n_dims,
@@ -146,6 +80,6 @@ pub fn state_in(
         best: ns[8] as usize,
         word: ns[9],
         closed,
-        idle,
+        idle: (ns[7] % 4294967296) as u32,
     }
 }

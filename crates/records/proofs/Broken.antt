@@ -1,5 +1,6 @@
 -- THE CHAIN'S RULE: it is kept exactly where the file has the right length and its chain ends. A chain of as many steps as there are records meets one twice,
 -- and which two is found (`two?`).
+use Rattle.std.specs.Prelude.{Option, Some, None, slice_get}
 use Prim.Native.Nat.{ℕ, zero, suc, ◌+◌, ◌/◌, ◌%◌, ◌≤◌, ◌<◌}
 use native.Mathlib.Omega.{arith}
 use native.Mathlib.Nat.{not-suc-le-zero}
@@ -7,12 +8,12 @@ use mathlib.Core.Path.{◌≡◌, refl, sym, ap, ◌∙◌, subst}
 use mathlib.Core.Bool.{Bool, true, false, ◌||◌, cond, true≢false}
 use mathlib.Core.List.{List, [], ◌∷◌}
 use mathlib.Core.Logic.{◌↔◌, ◌⊎◌, inl, inr, ⊎_elim}
-use mathlib.Core.Option.{Option, none, some}
 use borrow.Author.Tests.{eqb-true, eqb-false, leb-true, leb-false}
 use lib.Dec.{eqb, leb}
-use lib.ListN.{length, get_elem?}
+use lib.ListN.{length}
 use Rattle.rng_util.specs.Many.{listed}
-use Rattle.records.specs.Chain.{Piece, next_at, piece_at, record_count, misfits, linked, chain_from, chain_of, Follows, last, then, Broken, Leads, empty, met, met-twice, past_end, uneven}
+use Rattle.records.specs.declared.Piece.{Piece}
+use Rattle.records.specs.Chain.{next_at, piece_at, record_count, misfits, linked, chain_from, chain_of, Follows, last, then, Broken, Leads, empty, met, met-twice, past_end, uneven}
 use Rattle.records.proofs.Exact.{Below, Absent, Distinct, few, chain-exactly, none-twice}
 use Rattle.records.proofs.Lists.{listed-length}
 
@@ -74,15 +75,15 @@ module _ (g : ℕ → ℕ) where
 -- ---- a chain that ends does not break the rule
 
 module _ (f : List ℕ) where
-  on_chain : (n a m : ℕ) (ks : List ℕ) → m ≡ a + n → Follows f (met f a) ks → Leads f m → (met f m < record_count f) × (get_elem? ks n ≡ some (met f m))
+  on_chain : (n a m : ℕ) (ks : List ℕ) → m ≡ a + n → Follows f (met f a) ks → Leads f m → (met f m < record_count f) × (slice_get ks n ≡ Some (met f m))
   unfolding met
-  on_chain zero a m _ e (last h d) l = let q : a ≡ m = omega arith in (subst (λ (i : ℕ). met f i < record_count f) q h, ap (λ (i : ℕ). some (met f i)) q)
-  on_chain zero a m _ e (then h d r) l = let q : a ≡ m = omega arith in (subst (λ (i : ℕ). met f i < record_count f) q h, ap (λ (i : ℕ). some (met f i)) q)
+  on_chain zero a m _ e (last h d) l = let q : a ≡ m = omega arith in (subst (λ (i : ℕ). met f i < record_count f) q h, ap (λ (i : ℕ). Some (met f i)) q)
+  on_chain zero a m _ e (then h d r) l = let q : a ≡ m = omega arith in (subst (λ (i : ℕ). met f i < record_count f) q h, ap (λ (i : ℕ). Some (met f i)) q)
   on_chain (suc n) a m _ e (last h d) l = absurd ((l a (omega arith)).1 d)
   on_chain (suc n) a m _ e (then {ks = ks} h d r) l = on_chain n (suc a) m ks (omega arith) r l
 
   module _ (ks : List ℕ) (c : Follows f 0 ks) where
-    stays : (n : ℕ) → Leads f n → (met f n < record_count f) × (get_elem? ks n ≡ some (met f n))
+    stays : (n : ℕ) → Leads f n → (met f n < record_count f) × (slice_get ks n ≡ Some (met f n))
     unfolding met
     stays n l = on_chain n 0 n ks (omega arith) c l
 
@@ -93,17 +94,17 @@ module _ (f : List ℕ) where
     not-twice i j h l e =
         let a = (stays i (λ m k. l m (omega arith))).1 in
         let b = (stays j l).1 in
-        let q : i ≡ j = none-twice f 0 ks c i j (met f i) a (b ∙ ap some (sym e)) in
+        let q : i ≡ j = none-twice f 0 ks c i j (met f i) a (b ∙ ap Some (sym e)) in
         omega arith
 
   -- ---- and one that does not end breaks it
 
-  none-some : {A : Type 0} {a : A} → some a ≡ none → ⊥
+  none-some : {A : Type 0} {a : A} → Some a ≡ None → ⊥
   none-some e = let z : ◌≡◌ {A = ℕ} 0 1 = cc in omega arith
 
-  unlinked : (p : Piece) (o : Option (List Piece)) → linked p o ≡ none → o ≡ none
-  unlinked p none e = refl
-  unlinked p (some ps) e = absurd (none-some e)
+  unlinked : (p : Piece) (o : Option (List Piece)) → linked p o ≡ None → o ≡ None
+  unlinked p None e = refl
+  unlinked p (Some ps) e = absurd (none-some e)
 
   module _ (first : 1 ≤ record_count f) where
     past : (n : ℕ) → Leads f n → record_count f ≤ met f n → Broken f
@@ -137,9 +138,9 @@ module _ (f : List ℕ) where
 
     -- what is known of the rest of the chain
     abbrev Next : ℕ → ℕ → Type 0
-    Next fuel n = met f n < record_count f → (next_at f (met f n) ≡ 0 → ⊥) → chain_from f fuel (next_at f (met f n)) ≡ none → Broken f
+    Next fuel n = met f n < record_count f → (next_at f (met f n) ≡ 0 → ⊥) → chain_from f fuel (next_at f (met f n)) ≡ None → Broken f
 
-    unended : (fuel n : ℕ) → n + fuel ≡ record_count f → Leads f n → chain_from f fuel (met f n) ≡ none → Broken f
+    unended : (fuel n : ℕ) → n + fuel ≡ record_count f → Leads f n → chain_from f fuel (met f n) ≡ None → Broken f
     unfolding chain_from met
     unended zero n e l c = go (leb (record_count f) (met f n)) refl
       where
@@ -149,12 +150,12 @@ module _ (f : List ℕ) where
     unended (suc fuel) n e l c = outer (leb (record_count f) (met f n)) refl c (λ h d k. unended fuel (suc n) (omega arith) (one_more n l h d) k)
       where
         inner : (b : Bool) → eqb (next_at f (met f n)) 0 ≡ b → met f n < record_count f
-            → cond b (some (piece_at f (met f n) ∷ [])) (linked (piece_at f (met f n)) (chain_from f fuel (next_at f (met f n)))) ≡ none → Next fuel n → Broken f
+            → cond b (Some (piece_at f (met f n) ∷ [])) (linked (piece_at f (met f n)) (chain_from f fuel (next_at f (met f n)))) ≡ None → Next fuel n → Broken f
         inner true q h c next = absurd (none-some c)
         inner false q h c next = next h (eqb-false (next_at f (met f n)) 0 q) (unlinked (piece_at f (met f n)) (chain_from f fuel (next_at f (met f n))) c)
 
         outer : (b : Bool) → leb (record_count f) (met f n) ≡ b
-            → cond b none (cond (eqb (next_at f (met f n)) 0) (some (piece_at f (met f n) ∷ [])) (linked (piece_at f (met f n)) (chain_from f fuel (next_at f (met f n))))) ≡ none → Next fuel n → Broken f
+            → cond b None (cond (eqb (next_at f (met f n)) 0) (Some (piece_at f (met f n) ∷ [])) (linked (piece_at f (met f n)) (chain_from f fuel (next_at f (met f n))))) ≡ None → Next fuel n → Broken f
         outer true q c next = past n l (leb-true (record_count f) (met f n) q)
         outer false q c next = inner (eqb (next_at f (met f n)) 0) refl (leb-false (record_count f) (met f n) q) c next
 
@@ -192,8 +193,8 @@ module _ (f : List ℕ) where
   kept-exactly = (λ h. go h (misfits f) refl, λ k. chain-unbroken k.0 k.1 k.2)
     where
       inner : (Broken f → ⊥) → misfits f ≡ false → (o : Option (List Piece)) → chain_of f ≡ o → (ks : List ℕ) × Follows f 0 ks
-      inner h e none q = absurd (h (unended (some-record e) (record_count f) 0 (omega arith) (λ m k. absurd (not-suc-le-zero k)) q))
-      inner h e (some ps) q = let c = (chain-exactly f ps).0 q in (c.0, c.1)
+      inner h e None q = absurd (h (unended (some-record e) (record_count f) 0 (omega arith) (λ m k. absurd (not-suc-le-zero k)) q))
+      inner h e (Some ps) q = let c = (chain-exactly f ps).0 q in (c.0, c.1)
 
       go : (Broken f → ⊥) → (b : Bool) → misfits f ≡ b → (misfits f ≡ false) × (ks : List ℕ) × Follows f 0 ks
       go h true e = absurd (h (misfits-broken e))
@@ -206,5 +207,5 @@ broken-or-not f = go (misfits f) refl (chain_of f) refl
   where
     go : (b : Bool) → misfits f ≡ b → (o : Option (List Piece)) → chain_of f ≡ o → Broken f ⊎ ((misfits f ≡ false) × (ks : List ℕ) × Follows f 0 ks)
     go true e o q = inl (misfits-broken f e)
-    go false e none q = inl (unended f (some-record f e) (record_count f) 0 (omega arith) (λ m k. absurd (not-suc-le-zero k)) q)
-    go false e (some ps) q = let c = (chain-exactly f ps).0 q in inr (e, c.0, c.1)
+    go false e None q = inl (unended f (some-record f e) (record_count f) 0 (omega arith) (λ m k. absurd (not-suc-le-zero k)) q)
+    go false e (Some ps) q = let c = (chain-exactly f ps).0 q in inr (e, c.0, c.1)

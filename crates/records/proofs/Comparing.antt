@@ -1,90 +1,71 @@
--- A table against words, place by place.
-use Prim.Native.Nat.{ℕ, zero, suc, ◌+◌, ◌-◌, ◌≤◌, ◌<◌}
-use native.Mathlib.Numerals.{add-one}
+-- A table against words: what stands at the front, and zeros or empty places after it.
+use Prim.Native.Nat.{ℕ, zero, suc, ◌-◌, ◌≤◌}
 use native.Mathlib.Omega.{arith}
-use mathlib.Core.Bool.{Bool, true, false, ◌&&◌, beq}
-use mathlib.Core.List.{List, ◌++◌}
+use mathlib.Core.Bool.{Bool, true, false, ◌&&◌, not, beq}
+use mathlib.Core.List.{List, [], ◌∷◌, ◌++◌}
 use mathlib.Core.Path.{◌≡◌, refl, sym, ap, ◌∙◌}
-use borrow.Author.Tests.{eq-eqb, ne_eqb, lt-ltb, le-ltb, ltb-true, ltb-false}
-use mir.Val.{Val}
-use denote.Array.{Array}
-use denote.Laws.{Is}
-use denote.Builtin.{u64, bool}
-use denote.RattleType.{RattleType}
-use lib.Dec.{eqb, ltb}
-use lib.ListN.{length, drop, get_or, replicate, length-replicate}
-use lib.Seq.{drop-cons, drop-length}
+use lib.Dec.{eqb}
+use lib.ListN.{length, take, drop, replicate, length-drop, length-replicate}
+use lib.Pointwise.{pointwise}
+use Rattle.std.specs.List.{list_all}
 use Rattle.rng_util.specs.Many.{pad_to}
-use Rattle.rng_util.proofs.Parts.{pad-length}
 use Rattle.records.specs.Tables.{same_words, same_flags}
-use Rattle.records.specs.declared.Table.{Table}
-use Rattle.records.specs.contracts.Table as T
+
+and-assoc : (a b c : Bool) → ((a && b) && c) ≡ (a && (b && c))
+and-assoc true b c = refl
+and-assoc false b c = refl
 
 -- ---- words
 
-module _ (a b : List ℕ) (i : ℕ) (la : i < length a) (lb : i < length b) where
-  words-at : same_words (drop i a) (drop i b) ≡ (eqb (get_or a i 0) (get_or b i 0) && same_words (drop (i + 1) a) (drop (i + 1) b))
-  unfolding same_words
-  words-at =
-      (λ j. same_words (drop-cons a i 0 la j) (drop-cons b i 0 lb j))
-      ∙ ap (λ (k : ℕ). eqb (get_or a i 0) (get_or b i 0) && same_words (drop k a) (drop k b)) (sym (add-one i))
-
-  pub words_same : get_or a i 0 ≡ get_or b i 0 → same_words (drop i a) (drop i b) ≡ same_words (drop (i + 1) a) (drop (i + 1) b)
-  words_same e = words-at ∙ ap (λ (t : Bool). t && same_words (drop (i + 1) a) (drop (i + 1) b)) (eq-eqb (get_or a i 0) (get_or b i 0) e)
-
-  pub words-differ : (get_or a i 0 ≡ get_or b i 0 → ⊥) → same_words (drop i a) (drop i b) ≡ false
-  words-differ e = words-at ∙ ap (λ (t : Bool). t && same_words (drop (i + 1) a) (drop (i + 1) b)) (ne_eqb (get_or a i 0) (get_or b i 0) e)
-
-pub words-end : (a b : List ℕ) (i : ℕ) → length a ≡ i → length b ≡ i → same_words (drop i a) (drop i b) ≡ true
+front-words : (xs ys zs : List ℕ) → length ys ≤ length xs → (pointwise eqb (take (length ys) xs) ys && same_words (drop (length ys) xs) zs) ≡ same_words xs (ys ++ zs)
 unfolding same_words
-words-end a b i la lb = λ j. same_words ((ap (λ (k : ℕ). drop k a) (sym la) ∙ drop-length a) j) ((ap (λ (k : ℕ). drop k b) (sym lb) ∙ drop-length b) j)
+front-words xs [] zs h = refl
+front-words [] (y ∷ ys) zs h = absurd (omega arith)
+front-words (x ∷ xs) (y ∷ ys) zs h =
+    and-assoc (eqb x y) (pointwise eqb (take (length ys) xs) ys) (same_words (drop (length ys) xs) zs) ∙ ap (λ (b : Bool). eqb x y && b) (front-words xs ys zs (omega arith))
+
+zero-words : (xs : List ℕ) (n : ℕ) → length xs ≡ n → list_all (λ w. eqb w 0) xs ≡ same_words xs (replicate n 0)
+unfolding same_words
+zero-words [] zero h = refl
+zero-words [] (suc n) h = absurd (omega arith)
+zero-words (x ∷ xs) zero h = absurd (omega arith)
+zero-words (x ∷ xs) (suc n) h = ap (λ (b : Bool). eqb x 0 && b) (zero-words xs n (omega arith))
+
+pub words_are : (xs ys front rest : List ℕ) (r s : Bool) → length xs ≡ 3600 → length ys ≤ 3600 → front ≡ take (length ys) xs → rest ≡ drop (length ys) xs
+    → r ≡ pointwise eqb front ys → s ≡ list_all (λ w. eqb w 0) rest → (r && s) ≡ same_words xs (pad_to 3600 0 ys)
+words_are xs ys front rest r s h l f g p q =
+    (λ i. (p ∙ ap (λ (t : List ℕ). pointwise eqb t ys) f) i && (q ∙ ap (list_all (λ w. eqb w 0)) g) i)
+    ∙ ap (λ (b : Bool). pointwise eqb (take (length ys) xs) ys && b) (zero-words (drop (length ys) xs) (3600 - length ys) (length-drop (length ys) xs ∙ ap (λ (n : ℕ). n - length ys) h))
+    ∙ front-words xs ys (replicate (3600 - length ys) 0) (omega arith)
 
 -- ---- marks
 
-get_or-false : (k i : ℕ) → get_or (replicate k false) i false ≡ false
-get_or-false zero i = refl
-get_or-false (suc k) zero = refl
-get_or-false (suc k) (suc i) = get_or-false k i
-
-wanted : (m k i : ℕ) → get_or (replicate m true ++ replicate k false) i false ≡ ltb i m
-wanted zero k i = get_or-false k i ∙ sym (le-ltb i 0 (omega arith))
-wanted (suc m) k zero = sym (lt-ltb 0 (suc m) (omega arith))
-wanted (suc m) k (suc i) = wanted m k i ∙ go (ltb i m) refl
-  where
-    go : (b : Bool) → ltb i m ≡ b → ltb i m ≡ ltb (suc i) (suc m)
-    go true e = e ∙ sym (lt-ltb (suc i) (suc m) (omega (arith, ltb-true i m e)))
-    go false e = e ∙ sym (le-ltb (suc i) (suc m) (omega (arith, ltb-false i m e)))
-
-module _ (a : List Bool) (m i : ℕ) (la : length a ≡ 1200) (lm : m ≤ 1200) (h : i < 1200) where
-  abbrev want : List Bool
-  want = pad_to 1200 false (replicate m true)
-
-  want-length : length want ≡ 1200
-  want-length = pad-length 1200 false (replicate m true) (omega (arith, length-replicate m true))
-
-  flags-at : same_flags (drop i a) (drop i want) ≡ (beq (get_or a i false) (ltb i m) && same_flags (drop (i + 1) a) (drop (i + 1) want))
-  unfolding same_flags
-  flags-at =
-      (λ j. same_flags (drop-cons a i false (omega (arith, la)) j) (drop-cons want i false (omega (arith, want-length)) j))
-      ∙ (λ j. beq (get_or a i false) (wanted m (1200 - length (replicate m true)) i j) && same_flags (drop (sym (add-one i) j) a) (drop (sym (add-one i) j) want))
-
-  pub flags-same : beq (get_or a i false) (ltb i m) ≡ true → same_flags (drop i a) (drop i want) ≡ same_flags (drop (i + 1) a) (drop (i + 1) want)
-  flags-same e = flags-at ∙ ap (λ (t : Bool). t && same_flags (drop (i + 1) a) (drop (i + 1) want)) e
-
-  pub flags-differ : beq (get_or a i false) (ltb i m) ≡ false → same_flags (drop i a) (drop i want) ≡ false
-  flags-differ e = flags-at ∙ ap (λ (t : Bool). t && same_flags (drop (i + 1) a) (drop (i + 1) want)) e
-
-pub flags-end : (a : List Bool) (m i : ℕ) → length a ≡ 1200 → m ≤ 1200 → i ≡ 1200 → same_flags (drop i a) (drop i (pad_to 1200 false (replicate m true))) ≡ true
+front-flags : (xs zs : List Bool) (m : ℕ) → m ≤ length xs → (list_all (λ b. b) (take m xs) && same_flags (drop m xs) zs) ≡ same_flags xs (replicate m true ++ zs)
 unfolding same_flags
-flags-end a m i la lm e =
-    let w = pad_to 1200 false (replicate m true) in
-    let lw : length w ≡ 1200 = pad-length 1200 false (replicate m true) (omega (arith, length-replicate m true)) in
-    λ j. same_flags ((ap (λ (k : ℕ). drop k a) (e ∙ sym la) ∙ drop-length a) j) ((ap (λ (k : ℕ). drop k w) (e ∙ sym lw) ∙ drop-length w) j)
+front-flags xs zs zero h = refl
+front-flags [] zs (suc m) h = absurd (omega arith)
+front-flags (x ∷ xs) zs (suc m) h =
+    and-assoc x (list_all (λ b. b) (take m xs)) (same_flags (drop m xs) zs) ∙ (λ i. is x i && front-flags xs zs m (omega arith) i)
+  where
+    is : (b : Bool) → b ≡ beq b true
+    is true = refl
+    is false = refl
 
--- ---- a table's arrays, as its type says
+empty-flags : (xs : List Bool) (n : ℕ) → length xs ≡ n → list_all not xs ≡ same_flags xs (replicate n false)
+unfolding same_flags
+empty-flags [] zero h = refl
+empty-flags [] (suc n) h = absurd (omega arith)
+empty-flags (x ∷ xs) zero h = absurd (omega arith)
+empty-flags (x ∷ xs) (suc n) h = λ i. is x i && empty-flags xs n (omega arith) i
+  where
+    is : (b : Bool) → not b ≡ beq b false
+    is true = refl
+    is false = refl
 
-field-length : (R : RattleType) (n : ℕ) (xs : List R.Denot) (vs : List Val) → Is (Array R n) xs vs → length xs ≡ n
-field-length R n xs vs p = p.1.0.1
-
-pub table-long : (t : Table) (vs : List Val) → Is T.the_row t vs → (length t.words ≡ 3600) × (length t.filled ≡ 1200)
-table-long t vs p = (field-length u64 3600 t.words _ p.1.1.0, field-length bool 1200 t.filled _ p.1.1.1.0)
+pub flags_are : (xs front rest : List Bool) (m : ℕ) (r s : Bool) → length xs ≡ 1200 → m ≤ 1200 → front ≡ take m xs → rest ≡ drop m xs
+    → r ≡ list_all (λ b. b) front → s ≡ list_all not rest → (r && s) ≡ same_flags xs (pad_to 1200 false (replicate m true))
+flags_are xs front rest m r s h l f g p q =
+    (λ i. (p ∙ ap (list_all (λ b. b)) f) i && (q ∙ ap (list_all not) g) i)
+    ∙ ap (λ (b : Bool). list_all (λ b. b) (take m xs) && b) (empty-flags (drop m xs) (1200 - m) (length-drop m xs ∙ ap (λ (n : ℕ). n - m) h))
+    ∙ front-flags xs (replicate (1200 - m) false) m (omega arith)
+    ∙ ap (λ (n : ℕ). same_flags xs (replicate m true ++ replicate (1200 - n) false)) (sym (length-replicate m true))

@@ -1,16 +1,17 @@
 -- "a record met twice": a chain that ends meets none twice, so it ends within as many records as the file has; and one that meets a record twice never ends.
+use Rattle.std.specs.Prelude.{Option, Some, None, slice_get}
 use Prim.Native.Nat.{ℕ, zero, suc, ◌≤◌, ◌<◌}
 use native.Mathlib.Nat.{not-suc-le-zero, le_of_suc-le-suc}
 use native.Mathlib.Omega.{arith}
 use mathlib.Core.Bool.{Bool, true, false, cond}
 use mathlib.Core.List.{List, [], ◌∷◌}
 use mathlib.Core.Logic.{◌↔◌, ◌⊎◌, inl, inr}
-use mathlib.Core.Option.{Option, none, some}
 use mathlib.Core.Path.{◌≡◌, refl, sym, ap, ◌∙◌, subst}
 use borrow.Author.Tests.{lt-leb, leb-false, ne_eqb, eqb-true, eqb-false}
 use lib.Dec.{leb, eqb}
-use lib.ListN.{length, get_elem?, length-map}
-use Rattle.records.specs.Chain.{Piece, next_at, piece_at, record_count, linked, chain_from, chain_of, walk, Walks, Follows, last, then, NoneTwice, records_at}
+use lib.ListN.{length, length-map}
+use Rattle.records.specs.declared.Piece.{Piece}
+use Rattle.records.specs.Chain.{next_at, piece_at, record_count, linked, chain_from, chain_of, walk, Walks, Follows, last, then, NoneTwice, records_at}
 
 -- ---- different numbers below n are n at most
 
@@ -134,7 +135,7 @@ module _ (f : List ℕ) where
 
   -- ---- and is what the reader follows
 
-  follow-chain : (fuel k : ℕ) (ks : List ℕ) → Follows f k ks → length ks ≤ fuel → chain_from f fuel k ≡ some (records_at f ks)
+  follow-chain : (fuel k : ℕ) (ks : List ℕ) → Follows f k ks → length ks ≤ fuel → chain_from f fuel k ≡ Some (records_at f ks)
   unfolding chain_from
   follow-chain zero k _ (last h e) l = absurd (not-suc-le-zero l)
   follow-chain (suc fuel) k _ (last h e) l = rw (lt-leb (record_count f) k h, e)
@@ -145,38 +146,38 @@ module _ (f : List ℕ) where
   abbrev Chain : ℕ → List Piece → Type 0
   Chain k ps = (ks : List ℕ) × Follows f k ks × (ps ≡ records_at f ks)
 
-  module _ (fuel k : ℕ) (ps : List Piece) (again : (qs : List Piece) → chain_from f fuel (next_at f k) ≡ some qs → Chain (next_at f k) qs) where
-    rest : (o : Option (List Piece)) → chain_from f fuel (next_at f k) ≡ o → k < record_count f → (next_at f k ≡ 0 → ⊥) → linked (piece_at f k) o ≡ some ps → Chain k ps
-    rest none q l d r = let z : ◌≡◌ {A = ℕ} 0 1 = cc in absurd (omega arith)
-    rest (some qs) q l d r =
+  module _ (fuel k : ℕ) (ps : List Piece) (again : (qs : List Piece) → chain_from f fuel (next_at f k) ≡ Some qs → Chain (next_at f k) qs) where
+    rest : (o : Option (List Piece)) → chain_from f fuel (next_at f k) ≡ o → k < record_count f → (next_at f k ≡ 0 → ⊥) → linked (piece_at f k) o ≡ Some ps → Chain k ps
+    rest None q l d r = let z : ◌≡◌ {A = ℕ} 0 1 = cc in absurd (omega arith)
+    rest (Some qs) q l d r =
         let c = again qs q in
         let s : ps ≡ piece_at f k ∷ qs = cc in
         (k ∷ c.0, then l d c.1, s ∙ ap (λ (t : List Piece). piece_at f k ∷ t) c.2)
 
     inner : (b : Bool) → eqb (next_at f k) 0 ≡ b → k < record_count f
-        → cond b (some (piece_at f k ∷ [])) (linked (piece_at f k) (chain_from f fuel (next_at f k))) ≡ some ps → Chain k ps
+        → cond b (Some (piece_at f k ∷ [])) (linked (piece_at f k) (chain_from f fuel (next_at f k))) ≡ Some ps → Chain k ps
     inner true q l r = let s : ps ≡ piece_at f k ∷ [] = cc in (k ∷ [], last l (eqb-true (next_at f k) 0 q), s)
     inner false q l r = rest (chain_from f fuel (next_at f k)) refl l (eqb-false (next_at f k) 0 q) r
 
     outer : (b : Bool) → leb (record_count f) k ≡ b
-        → cond b none (cond (eqb (next_at f k) 0) (some (piece_at f k ∷ [])) (linked (piece_at f k) (chain_from f fuel (next_at f k)))) ≡ some ps → Chain k ps
+        → cond b None (cond (eqb (next_at f k) 0) (Some (piece_at f k ∷ [])) (linked (piece_at f k) (chain_from f fuel (next_at f k)))) ≡ Some ps → Chain k ps
     outer true q r = let z : ◌≡◌ {A = ℕ} 0 1 = cc in absurd (omega arith)
     outer false q r = inner (eqb (next_at f k) 0) refl (leb-false (record_count f) k q) r
 
-  chain-follow : (fuel k : ℕ) (ps : List Piece) → chain_from f fuel k ≡ some ps → Chain k ps
+  chain-follow : (fuel k : ℕ) (ps : List Piece) → chain_from f fuel k ≡ Some ps → Chain k ps
   unfolding chain_from
   chain-follow zero k ps e = let z : ◌≡◌ {A = ℕ} 0 1 = cc in absurd (omega arith)
   chain-follow (suc fuel) k ps e = outer fuel k ps (λ qs. chain-follow fuel (next_at f k) qs) (leb (record_count f) k) refl e
 
   -- THE CHAIN, in document 02's words: the reader has one exactly where the next indices from record 0 on stay in the file and come to a 0
-  pub chain-exactly : (ps : List Piece) → (chain_of f ≡ some ps) ↔ Chain 0 ps
+  pub chain-exactly : (ps : List Piece) → (chain_of f ≡ Some ps) ↔ Chain 0 ps
   chain-exactly ps = (
     λ e. chain-follow (record_count f) 0 ps e,
-    λ c. follow-chain (record_count f) 0 c.0 c.1 (short 0 c.0 c.1) ∙ ap some (sym c.2),
+    λ c. follow-chain (record_count f) 0 c.0 c.1 (short 0 c.0 c.1) ∙ ap Some (sym c.2),
   )
 
   -- and then no record is met twice
-  missing : (ks : List ℕ) (j k : ℕ) → Absent k ks → get_elem? ks j ≡ some k → ⊥
+  missing : (ks : List ℕ) (j k : ℕ) → Absent k ks → slice_get ks j ≡ Some k → ⊥
   missing [] j k a q = let z : ◌≡◌ {A = ℕ} 0 1 = cc in omega arith
   missing (y ∷ ks) zero k a q = a.0 (let s : y ≡ k = cc in s)
   missing (y ∷ ks) (suc j) k a q = missing ks j k a.1 q
@@ -200,7 +201,7 @@ module _ (f : List ℕ) where
   records-length : (ks : List ℕ) → length (records_at f ks) ≡ length ks
   records-length ks = length-map ks (piece_at f)
 
-  pub chain-walk : (ps : List Piece) → chain_of f ≡ some ps → Walks f (length ps) 0 × (ps ≡ walk f (length ps) 0)
+  pub chain-walk : (ps : List Piece) → chain_of f ≡ Some ps → Walks f (length ps) 0 × (ps ≡ walk f (length ps) 0)
   chain-walk ps e =
       let c = (chain-exactly ps).0 e in
       let w = follows-walk 0 c.0 c.1 in

@@ -1,17 +1,18 @@
 -- Records whose numbers fit their bytes, and the file of them.
+use Rattle.std.specs.Prelude.{Some}
 use Prim.Native.Nat.{ℕ, zero, suc, ◌+◌, ◌*◌, ◌%◌, ◌^◌, ◌≤◌, ◌<◌}
 use native.Mathlib.Omega.{arith}
 use mathlib.Core.Bool.{false, ◌||◌}
 use mathlib.Core.List.Memᴰ
 use mathlib.Core.List.{List, [], ◌∷◌, ◌++◌}
 use mathlib.Core.Logic.{⊎_elim}
-use mathlib.Core.Option.{some}
 use mathlib.Core.Path.{◌≡◌, refl, sym, ap, ◌∙◌, subst}
 use borrow.Author.Tests.{ne_eqb, lt-leb}
 use lib.Dec.{eqb, leb}
 use lib.ListN.{length, get_or}
 use Rattle.ledger.specs.Words.{All}
-use Rattle.records.specs.Chain.{Piece, misfits, chain_of, file_of_pieces}
+use Rattle.records.specs.declared.Piece.{Piece}
+use Rattle.records.specs.Chain.{misfits, chain_of, file_of_pieces}
 use Rattle.records.specs.Tables.{pieces_from}
 use Rattle.records.proofs.Written.{Fit, chain_back, records-length}
 
@@ -37,7 +38,7 @@ both-fit ps qs h k a m = ⊎_elim (h a) (k a) (Memᴰ.append_cases ps m)
 
 -- ---- a file of records
 
-pub chain-all : (ps : List Piece) → 1 ≤ length ps → length ps < 256 ^ 2 → All Fit ps → chain_of (file_of_pieces ps) ≡ some ps
+pub chain-all : (ps : List Piece) → 1 ≤ length ps → length ps < 256 ^ 2 → All Fit ps → chain_of (file_of_pieces ps) ≡ Some ps
 chain-all [] h l v = absurd (omega arith)
 chain-all (p ∷ ps) h l v = chain_back p ps l (v p (Memᴰ.head refl)) (λ a m. v a (Memᴰ.tail m))
 

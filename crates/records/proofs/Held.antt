@@ -13,7 +13,7 @@ use lib.Seq.{get_or-set_same, get_or-set_other}
 use Rattle.rng_util.specs.Many.{pad_to}
 use Rattle.ledger.specs.Words.{All}
 use Rattle.state.proofs.Flags.{true-and}
-use Rattle.records.specs.Chain.{Piece}
+use Rattle.records.specs.declared.Piece.{Piece}
 use Rattle.records.specs.Tables.{records_for, piece_of, pieces_from, section, no_records, laid_at, lay, laid_on, table_of, same_words, same_flags, holds}
 use Rattle.records.specs.declared.Table.{Table}
 use Rattle.records.proofs.Tabled.{get_or-pad}

@@ -11,7 +11,7 @@ use lib.Dec.{ltb, eqb}
 use lib.ListN.{length, set}
 use lib.Seq.{set_comm}
 use Rattle.ledger.specs.Words.{All}
-use Rattle.records.specs.Chain.{Piece}
+use Rattle.records.specs.declared.Piece.{Piece}
 use Rattle.records.specs.Tables.{laid_at, lay, laid_on, section, pieces_from, records_for}
 use Rattle.records.specs.declared.Table.{Table}
 

@@ -6,7 +6,7 @@ use mathlib.Core.List.Permᴰ
 use mathlib.Core.List.{List, [], ◌∷◌, Memᴰ, Permᴰ}
 use lib.ListN.{length}
 use Rattle.ledger.specs.Words.{All}
-use Rattle.records.specs.Chain.{Piece}
+use Rattle.records.specs.declared.Piece.{Piece}
 use Rattle.records.proofs.Orders.{Keyed}
 
 -- ---- a list without one of its elements

@@ -7,46 +7,48 @@ use mathlib.Core.List.{List, [], ◌∷◌, ◌++◌, append_assoc, append-nil}
 use mathlib.Core.Path.{◌≡◌, refl, sym, ap, ◌∙◌}
 use lib.Dec.{eqb}
 use lib.ListN.{length, length-append}
-use lib.Seq.{paste, paste-zero, length-paste}
+use lib.Seq.{paste}
 use Rattle.rng_util.specs.Many.{pad_to}
 use Rattle.records.specs.Bytes.{bytes_of}
-use Rattle.records.specs.Chain.{Piece, piece, record_bytes, records_from}
+use Rattle.records.specs.declared.Piece.{Piece}
+use Rattle.records.specs.Chain.{record_bytes, records_from}
 use Rattle.records.specs.Tables.{piece_of, pieces_from}
 use Rattle.records.proofs.Pasted.{paste_more}
+use Rattle.records.proofs.Reading.{bytes-length}
 use Rattle.records.proofs.Tabled.{get_or-pad}
-use Rattle.records.proofs.Written.{bytes-length, record-length, records-length}
+use Rattle.records.proofs.Written.{record-length, records-length}
 
 -- ---- a record: six numbers, one after another
 
-module _ (f : List ℕ) (at next kind position a b c : ℕ) (h : at + 32 ≤ length f) where
+module _ (f : List ℕ) (at next : ℕ) (p : Piece) (h : at + 32 ≤ length f) where
   abbrev whole : List ℕ
-  whole = record_bytes next (piece kind position a b c)
+  whole = record_bytes next p
 
   pub six : (f1 f2 f3 f4 f5 f6 : List ℕ)
       → f1 ≡ paste f at (bytes_of 2 next) 2
-      → f2 ≡ paste f1 (at + 2) (bytes_of 2 kind) 2
-      → f3 ≡ paste f2 (at + 4) (bytes_of 4 position) 4
-      → f4 ≡ paste f3 (at + 8) (bytes_of 8 a) 8
-      → f5 ≡ paste f4 (at + 16) (bytes_of 8 b) 8
-      → f6 ≡ paste f5 (at + 24) (bytes_of 8 c) 8
+      → f2 ≡ paste f1 (at + 2) (bytes_of 2 p.kind) 2
+      → f3 ≡ paste f2 (at + 4) (bytes_of 4 p.position) 4
+      → f4 ≡ paste f3 (at + 8) (bytes_of 8 p.first) 8
+      → f5 ≡ paste f4 (at + 16) (bytes_of 8 p.second) 8
+      → f6 ≡ paste f5 (at + 24) (bytes_of 8 p.third) 8
       → f6 ≡ paste f at whole 32
   six f1 f2 f3 f4 f5 f6 e1 e2 e3 e4 e5 e6 =
       let s1 = bytes_of 2 next in
-      let s2 = s1 ++ bytes_of 2 kind in
-      let s3 = s2 ++ bytes_of 4 position in
-      let s4 = s3 ++ bytes_of 8 a in
-      let s5 = s4 ++ bytes_of 8 b in
+      let s2 = s1 ++ bytes_of 2 p.kind in
+      let s3 = s2 ++ bytes_of 4 p.position in
+      let s4 = s3 ++ bytes_of 8 p.first in
+      let s5 = s4 ++ bytes_of 8 p.second in
       let l : at ≤ length f = omega arith in
       let l1 : length s1 ≡ 2 = bytes-length 2 next in
-      let l2 : length s2 ≡ 4 = length-append s1 (bytes_of 2 kind) ∙ (λ i. l1 i + bytes-length 2 kind i) in
-      let l3 : length s3 ≡ 8 = length-append s2 (bytes_of 4 position) ∙ (λ i. l2 i + bytes-length 4 position i) in
-      let l4 : length s4 ≡ 16 = length-append s3 (bytes_of 8 a) ∙ (λ i. l3 i + bytes-length 8 a i) in
-      let l5 : length s5 ≡ 24 = length-append s4 (bytes_of 8 b) ∙ (λ i. l4 i + bytes-length 8 b i) in
-      let p2 : f2 ≡ paste f at s2 4 = paste_more f f1 f2 s1 (bytes_of 2 kind) at (at + 2) 2 2 4 l l1 (bytes-length 2 kind) refl refl e1 e2 in
-      let p3 : f3 ≡ paste f at s3 8 = paste_more f f2 f3 s2 (bytes_of 4 position) at (at + 4) 4 4 8 l l2 (bytes-length 4 position) refl refl p2 e3 in
-      let p4 : f4 ≡ paste f at s4 16 = paste_more f f3 f4 s3 (bytes_of 8 a) at (at + 8) 8 8 16 l l3 (bytes-length 8 a) refl refl p3 e4 in
-      let p5 : f5 ≡ paste f at s5 24 = paste_more f f4 f5 s4 (bytes_of 8 b) at (at + 16) 16 8 24 l l4 (bytes-length 8 b) refl refl p4 e5 in
-      paste_more f f5 f6 s5 (bytes_of 8 c) at (at + 24) 24 8 32 l l5 (bytes-length 8 c) refl refl p5 e6
+      let l2 : length s2 ≡ 4 = length-append s1 (bytes_of 2 p.kind) ∙ (λ i. l1 i + bytes-length 2 p.kind i) in
+      let l3 : length s3 ≡ 8 = length-append s2 (bytes_of 4 p.position) ∙ (λ i. l2 i + bytes-length 4 p.position i) in
+      let l4 : length s4 ≡ 16 = length-append s3 (bytes_of 8 p.first) ∙ (λ i. l3 i + bytes-length 8 p.first i) in
+      let l5 : length s5 ≡ 24 = length-append s4 (bytes_of 8 p.second) ∙ (λ i. l4 i + bytes-length 8 p.second i) in
+      let p2 : f2 ≡ paste f at s2 4 = paste_more f f1 f2 s1 (bytes_of 2 p.kind) at (at + 2) 2 2 4 l l1 (bytes-length 2 p.kind) refl refl e1 e2 in
+      let p3 : f3 ≡ paste f at s3 8 = paste_more f f2 f3 s2 (bytes_of 4 p.position) at (at + 4) 4 4 8 l l2 (bytes-length 4 p.position) refl refl p2 e3 in
+      let p4 : f4 ≡ paste f at s4 16 = paste_more f f3 f4 s3 (bytes_of 8 p.first) at (at + 8) 8 8 16 l l3 (bytes-length 8 p.first) refl refl p3 e4 in
+      let p5 : f5 ≡ paste f at s5 24 = paste_more f f4 f5 s4 (bytes_of 8 p.second) at (at + 16) 16 8 24 l l4 (bytes-length 8 p.second) refl refl p4 e5 in
+      paste_more f f5 f6 s5 (bytes_of 8 p.third) at (at + 24) 24 8 32 l l5 (bytes-length 8 p.third) refl refl p5 e6
 
 -- ---- the records of a kind
 
@@ -92,12 +94,6 @@ bytes-more count k kind ws j =
     ∙ ap (λ (l : List ℕ). bytes_to count k kind ws j ++ l) (append-nil (record_bytes (next_of count (k + j + 1)) (piece_of kind ws j)))
 
 module _ (f : List ℕ) (count k kind : ℕ) (ws : List ℕ) where
-  pub none-put : f ≡ paste f (32 * k) (bytes_to count k kind ws 0) 0
-  none-put = paste-zero f (32 * k) (bytes_to count k kind ws 0)
-
-  pub put-length : (g : List ℕ) (j m : ℕ) → j ≤ m → 32 * (k + m) ≤ length f → g ≡ paste f (32 * k) (bytes_to count k kind ws j) (32 * j) → length g ≡ length f
-  put-length g j m l h e = ap length e ∙ length-paste f (32 * k) (bytes_to count k kind ws j) (32 * j) (omega arith) (omega (arith, bytes-to-length count k kind ws j))
-
   pub put-more : (g g' : List ℕ) (j m next : ℕ) → j < m → 32 * (k + m) ≤ length f → g ≡ paste f (32 * k) (bytes_to count k kind ws j) (32 * j) → next ≡ next_of count (k + j + 1)
       → g' ≡ paste g (32 * (k + j)) (record_bytes next (piece_of kind ws j)) 32 → g' ≡ paste f (32 * k) (bytes_to count k kind ws (j + 1)) (32 * (j + 1))
   put-more g g' j m next l h e q p =
@@ -105,9 +101,6 @@ module _ (f : List ℕ) (count k kind : ℕ) (ws : List ℕ) where
       paste_more f g g' (bytes_to count k kind ws j) r (32 * k) (32 * (k + j)) (32 * j) 32 (32 * (j + 1)) (omega arith) (bytes-to-length count k kind ws j)
       (record-length (next_of count (k + j + 1)) (piece_of kind ws j)) (omega arith) (omega arith) e (p ∙ ap (λ (n : ℕ). paste g (32 * (k + j)) (record_bytes n (piece_of kind ws j)) 32) q)
       ∙ ap (λ (l : List ℕ). paste f (32 * k) l (32 * (j + 1))) (sym (bytes-more count k kind ws j))
-
-  pub all-put : (g : List ℕ) (j m : ℕ) → j ≡ m → g ≡ paste f (32 * k) (bytes_to count k kind ws j) (32 * j) → g ≡ paste f (32 * k) (bytes_to count k kind ws m) (32 * m)
-  all-put g j m q e = e ∙ ap (λ (n : ℕ). paste f (32 * k) (bytes_to count k kind ws n) (32 * n)) q
 
 -- zeros after a section's words make no difference
 pub pieces-padded : (kind N : ℕ) (ws : List ℕ) (m k : ℕ) → pieces_from kind (pad_to N 0 ws) m k ≡ pieces_from kind ws m k

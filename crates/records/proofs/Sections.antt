@@ -1,19 +1,19 @@
 -- The records of kinds 1 to n by the words of each: no two of one kind and position, their tables, and the law on which the reader stands (`agrees-exactly`):
 -- its test holds exactly where the records on the chain are these, each once, in some order.
+use Rattle.std.specs.Prelude.{Some, slice_get}
 use Prim.Native.Nat.{ℕ, zero, suc, ◌+◌, ◌≤◌, ◌<◌, ◌^◌}
 use native.Mathlib.Omega.{arith}
 use mathlib.Core.Path.{◌≡◌, refl, sym, ap, ◌∙◌, subst}
 use mathlib.Core.Bool.{Bool, true, false}
 use mathlib.Core.List.Memᴰ
 use mathlib.Core.List.{List, [], ◌∷◌, ◌++◌, Memᴰ, Permᴰ}
-use mathlib.Core.Option.{some}
 use mathlib.Core.Logic.{◌↔◌}
 use borrow.Author.Tests.{eqb-true, eqb-false, eq-eqb, ne_eqb}
 use lib.Dec.{eqb}
-use lib.ListN.{length, get_elem?}
+use lib.ListN.{length}
 use Rattle.ledger.specs.Words.{All}
 use Rattle.state.proofs.Flags.{and-true, true-and}
-use Rattle.records.specs.Chain.{Piece}
+use Rattle.records.specs.declared.Piece.{Piece}
 use Rattle.records.specs.Tables.{records_for, piece_of, pieces_from, section, laid_on, table_of, holds, agrees, no_records, sections_to, hold_to}
 use Rattle.records.specs.declared.Table.{Table}
 use Rattle.records.proofs.Orders.{Keyed, Under, next-keyed, same_length, same-table, under-append}
@@ -178,12 +178,12 @@ module _ (words : ℕ → List ℕ) where
 
 -- ---- no position twice
 
-pub once : (rs : List Piece) → Keyed rs → (i j : ℕ) (p q : Piece) → get_elem? rs i ≡ some p → get_elem? rs j ≡ some q → p.kind ≡ q.kind → p.position ≡ q.position → i ≡ j
+pub once : (rs : List Piece) → Keyed rs → (i j : ℕ) (p q : Piece) → slice_get rs i ≡ Some p → slice_get rs j ≡ Some q → p.kind ≡ q.kind → p.position ≡ q.position → i ≡ j
 once [] k i j p q a b e d = let z : ◌≡◌ {A = ℕ} 0 1 = cc in absurd (omega arith)
 once (r ∷ rs) k zero zero p q a b e d = refl
 once (r ∷ rs) k zero (suc j) p q a b e d = absurd (clash (let x : r ≡ p = cc in x) (at_mem rs j q b))
   where
-    at_mem : (rs : List Piece) (j : ℕ) (q : Piece) → get_elem? rs j ≡ some q → Memᴰ q rs
+    at_mem : (rs : List Piece) (j : ℕ) (q : Piece) → slice_get rs j ≡ Some q → Memᴰ q rs
     at_mem [] j q b = let z : ◌≡◌ {A = ℕ} 0 1 = cc in absurd (omega arith)
     at_mem (r ∷ rs) zero q b = Memᴰ.head (let x : q ≡ r = cc in x)
     at_mem (r ∷ rs) (suc j) q b = Memᴰ.tail (at_mem rs j q b)
@@ -192,7 +192,7 @@ once (r ∷ rs) k zero (suc j) p q a b e d = absurd (clash (let x : r ≡ p = cc
     clash x m = k.0 q m (ap (λ (y : Piece). y.kind) x ∙ e) (ap (λ (y : Piece). y.position) x ∙ d)
 once (r ∷ rs) k (suc i) zero p q a b e d = absurd (clash (let x : r ≡ q = cc in x) (at_mem rs i p a))
   where
-    at_mem : (rs : List Piece) (j : ℕ) (q : Piece) → get_elem? rs j ≡ some q → Memᴰ q rs
+    at_mem : (rs : List Piece) (j : ℕ) (q : Piece) → slice_get rs j ≡ Some q → Memᴰ q rs
     at_mem [] j q b = let z : ◌≡◌ {A = ℕ} 0 1 = cc in absurd (omega arith)
     at_mem (r ∷ rs) zero q b = Memᴰ.head (let x : q ≡ r = cc in x)
     at_mem (r ∷ rs) (suc j) q b = Memᴰ.tail (at_mem rs j q b)

@@ -13,7 +13,7 @@ use Rattle.rng_util.specs.Many.{pad_to}
 use Rattle.rng_util.proofs.Parts.{pad-put, pad-length}
 use Rattle.state.proofs.Flags.{and-true}
 use Rattle.state.proofs.Tidy.{padded}
-use Rattle.records.specs.Chain.{Piece}
+use Rattle.records.specs.declared.Piece.{Piece}
 use Rattle.records.specs.Tables.{no_records, laid_at, lay, laid_on, same_words, same_flags, holds, records_for, piece_of, pieces_from, section}
 use Rattle.records.specs.declared.Table.{Table}
 

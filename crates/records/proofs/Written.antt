@@ -1,4 +1,5 @@
 -- What the writer writes is read back: the numbers, the records, the chain.
+use Rattle.std.specs.Prelude.{Some}
 use Prim.Native.Nat.{ℕ, zero, suc, ◌+◌, ◌*◌, ◌/◌, ◌^◌, ◌≤◌, ◌<◌}
 use native.Mathlib.Nat.{not-suc-le-zero, le_of_suc-le-suc, le_refl}
 use native.Mathlib.Numerals.{unary_clauses}
@@ -6,7 +7,6 @@ use native.Mathlib.Omega.{arith}
 use mathlib.Core.Bool.{Bool, cond}
 use mathlib.Core.List.Memᴰ
 use mathlib.Core.List.{List, [], ◌∷◌, ◌++◌, append_assoc}
-use mathlib.Core.Option.{some}
 use mathlib.Core.Path.{◌≡◌, refl, sym, ap, ◌∙◌, subst}
 use borrow.Author.Tests.{lt-leb, ne_eqb, eq-eqb}
 use lib.Dec.{eqb}
@@ -14,14 +14,11 @@ use lib.ListN.{length, take, drop, length-append}
 use lib.Seq.{take_at, drop_at}
 use Rattle.ledger.specs.Words.{All}
 use Rattle.records.specs.Bytes.{bytes_of, number, field}
-use Rattle.records.specs.Chain.{Piece, record_bytes, records_from, next_at, piece_at, record_count, linked, chain_from, chain_of, file_of_pieces}
+use Rattle.records.proofs.Reading.{bytes-length}
+use Rattle.records.specs.declared.Piece.{Piece}
+use Rattle.records.specs.Chain.{record_bytes, records_from, next_at, piece_at, record_count, linked, chain_from, chain_of, file_of_pieces}
 
 -- ---- numbers
-
-pub bytes-length : (w v : ℕ) → length (bytes_of w v) ≡ w
-unfolding bytes_of
-bytes-length zero v = refl
-bytes-length (suc w) v = ap suc (bytes-length w (v / 256))
 
 pub bytes_back : (w v : ℕ) → v < 256 ^ w → number (bytes_of w v) ≡ v
 unfolding bytes_of number
@@ -107,12 +104,12 @@ records-length count k (p ∷ ps) =
 -- ---- the chain of a written file
 
 module _ (F : List ℕ) (count : ℕ) (c : record_count F ≡ count) (small : count < 256 ^ 2) where
-  last_one : (fuel k : ℕ) (p : Piece) → k < count → next_at F k ≡ 0 → piece_at F k ≡ p → chain_from F (suc fuel) k ≡ some (p ∷ [])
+  last_one : (fuel k : ℕ) (p : Piece) → k < count → next_at F k ≡ 0 → piece_at F k ≡ p → chain_from F (suc fuel) k ≡ Some (p ∷ [])
   unfolding chain_from
-  last_one fuel k p l e q = rw (lt-leb (record_count F) k (subst (λ (n : ℕ). k < n) (sym c) l), e) (ap (λ (x : Piece). some (x ∷ [])) q)
+  last_one fuel k p l e q = rw (lt-leb (record_count F) k (subst (λ (n : ℕ). k < n) (sym c) l), e) (ap (λ (x : Piece). Some (x ∷ [])) q)
 
-  not_last : (fuel k next : ℕ) (p : Piece) (ps : List Piece) → k < count → next_at F k ≡ next → (next ≡ 0 → ⊥) → piece_at F k ≡ p → chain_from F fuel next ≡ some ps
-      → chain_from F (suc fuel) k ≡ some (p ∷ ps)
+  not_last : (fuel k next : ℕ) (p : Piece) (ps : List Piece) → k < count → next_at F k ≡ next → (next ≡ 0 → ⊥) → piece_at F k ≡ p → chain_from F fuel next ≡ Some ps
+      → chain_from F (suc fuel) k ≡ Some (p ∷ ps)
   unfolding chain_from
   not_last fuel k next p ps l e d q r =
       rw (lt-leb (record_count F) k (subst (λ (n : ℕ). k < n) (sym c) l), ne_eqb (next_at F k) 0 (λ z. d (sym e ∙ z)))
@@ -129,7 +126,7 @@ module _ (F : List ℕ) (count : ℕ) (c : record_count F ≡ count) (small : co
   next-of k = cond (eqb (k + 1) count) 0 (k + 1)
 
   from : (ps : List Piece) (p : Piece) (fuel k : ℕ) (before : List ℕ) → F ≡ before ++ records_from count k (p ∷ ps) → length before ≡ 32 * k → count ≡ k + length (p ∷ ps)
-      → length (p ∷ ps) ≤ fuel → Fit p → All Fit ps → chain_from F fuel k ≡ some (p ∷ ps)
+      → length (p ∷ ps) ≤ fuel → Fit p → All Fit ps → chain_from F fuel k ≡ Some (p ∷ ps)
   unfolding records_from
   from ps p zero k before q e s l v vs = absurd (not-suc-le-zero l)
   from [] p (suc fuel) k before q e s l v vs =
@@ -146,7 +143,7 @@ module _ (F : List ℕ) (count : ℕ) (c : record_count F ≡ count) (small : co
       (vs p' (Memᴰ.head refl)) (λ a m. vs a (Memᴰ.tail m)))
 
 -- WHAT IS WRITTEN IS READ: the chain of a file of 1 to 65,535 records
-pub chain_back : (p : Piece) (ps : List Piece) → length (p ∷ ps) < 256 ^ 2 → Fit p → All Fit ps → chain_of (file_of_pieces (p ∷ ps)) ≡ some (p ∷ ps)
+pub chain_back : (p : Piece) (ps : List Piece) → length (p ∷ ps) < 256 ^ 2 → Fit p → All Fit ps → chain_of (file_of_pieces (p ∷ ps)) ≡ Some (p ∷ ps)
 chain_back p ps h v vs =
     let n = length (p ∷ ps) in
     let F = file_of_pieces (p ∷ ps) in

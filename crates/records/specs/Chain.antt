@@ -1,19 +1,7 @@
 -- A saved file: "a run of 32-byte records numbered from 0, each with a 2-byte next index, a 2-byte kind, a 4-byte position and three 8-byte words".
-use Rattle.std.specs.Prelude.{◌≤◌, ℕ, zero, suc, ◌+◌, ◌*◌, ◌/◌, ◌%◌, ◌<◌, map, List, [], ◌∷◌, ◌++◌, ◌≡◌, Bool, ◌||◌, cond, leb, eqb, length}
-use Rattle.std.proofs.Math.Option.{Option, none, some}
-use Rattle.std.proofs.Math.ListN.{get_elem?}
+use Rattle.std.specs.Prelude.{◌≤◌, ℕ, zero, suc, ◌+◌, ◌*◌, ◌/◌, ◌%◌, ◌<◌, map, List, [], ◌∷◌, ◌++◌, ◌≡◌, Bool, ◌||◌, cond, leb, eqb, length, Option, Some, None, slice_get}
 use Rattle.records.specs.Bytes.{bytes_of, field}
-
--- what a record holds beside its next index
-pub record Piece : Type 0 where
-  pub kind : ℕ
-  pub position : ℕ
-  pub first : ℕ
-  pub second : ℕ
-  pub third : ℕ
-
-abbrev pub piece : ℕ → ℕ → ℕ → ℕ → ℕ → Piece
-piece k p a b c = record { kind = k; position = p; first = a; second = b; third = c }
+use Rattle.records.specs.declared.Piece.{Piece}
 
 -- ---- written
 
@@ -55,25 +43,25 @@ record_count f = length f / 32
 
 -- a record, and the rest of its chain if there is one
 abbrev pub linked : Piece → Option (List Piece) → Option (List Piece)
-linked p none = none
-linked p (some ps) = some (p ∷ ps)
+linked p None = None
+linked p (Some ps) = Some (p ∷ ps)
 
 -- What the chain holds from index k on, in its order, if it ends within so many records: `none` where "a next index [is] past its end", or it does not end.
 unfoldable pub chain_from : List ℕ → ℕ → ℕ → Option (List Piece)
-chain_from f zero k = none
+chain_from f zero k = None
 chain_from f (suc fuel) k =
-    cond (leb (record_count f) k) none
-    (cond (eqb (next_at f k) 0) (some (piece_at f k ∷ []))
+    cond (leb (record_count f) k) None
+    (cond (eqb (next_at f k) 0) (Some (piece_at f k ∷ []))
     (linked (piece_at f k) (chain_from f fuel (next_at f k))))
 
 -- "Record 0 starts the chain and zero as next index ends it." A chain of more records than the file has meets one twice, and so never ends (`chain-exactly`).
 abbrev pub chain_of : List ℕ → Option (List Piece)
 chain_of f = chain_from f (record_count f) 0
 
--- how many records it has; 0 where there is none
-abbrev pub chain_length : Option (List Piece) → ℕ
-chain_length none = 0
-chain_length (some ps) = length ps
+-- how many records it has, where there is one
+abbrev pub chain_length : Option (List Piece) → Option ℕ
+chain_length None = None
+chain_length (Some ps) = Some (length ps)
 
 -- n steps along the next indices from k on, whether they are a chain or not: the records met, and that each is in the file
 unfoldable pub walk : List ℕ → ℕ → ℕ → List Piece
@@ -93,7 +81,7 @@ pub data Follows (f : List ℕ) : ℕ → List ℕ → Type 0 where
 
 -- "a record met twice" is not: no index stands at two places
 abbrev pub NoneTwice : List ℕ → Type 0
-NoneTwice ks = (i j k : ℕ) → get_elem? ks i ≡ some k → get_elem? ks j ≡ some k → i ≡ j
+NoneTwice ks = (i j k : ℕ) → slice_get ks i ≡ Some k → slice_get ks j ≡ Some k → i ≡ j
 
 -- the records at these indices
 abbrev pub records_at : List ℕ → List ℕ → List Piece

@@ -2,7 +2,7 @@
 use Rattle.std.specs.Prelude.{ℕ, zero, suc, ◌+◌, ◌*◌, ◌/◌, List, [], ◌∷◌, ◌++◌, Bool, true, false, cond, ◌&&◌, eqb, ltb, length, get_or, set, replicate}
 use Rattle.std.specs.Bool.{beq}
 use Rattle.rng_util.specs.Many.{pad_to}
-use Rattle.records.specs.Chain.{Piece}
+use Rattle.records.specs.declared.Piece.{Piece}
 use Rattle.records.specs.declared.Table.{Table}
 
 -- ---- from words to records

@@ -1,45 +1,27 @@
 // Numbers as bytes, low byte first.
-ghost use Rattle.std.specs.Prelude.{◌≡◌, ◌+◌, ◌≤◌, ◌<◌, length};
+ghost use Rattle.std.specs.Prelude.{◌≡◌, ◌+◌, ◌≤◌, ◌<◌, ◌^◌, length};
 ghost use Rattle.std.proofs.Math.Seq.{paste};
 ghost use Rattle.records.specs.Bytes.{bytes_of, field};
 
-fn wide(b: u8) -> u64
-    ensures { (result ≡ b) × (result < 256) }
+// The number of `width` bytes that stands at place `at`.
+pub fn read(file: &[u8], at: usize, width: usize) -> u64
+    requires { (at + width ≤ length file.now) × (width ≤ 8) }
+    ensures { (result ≡ field file.now at width) × (result < 256 ^ width) }
 {
-    b as u64
+    let mut bytes = [0; 8];
+    bytes[..width].copy_from_slice(&file[at..at + width]);
+    u64::from_le_bytes(bytes)
 }
 
-pub fn read2(file: &[u8], at: usize) -> u64
-    requires { at + 2 ≤ length file.now }
-    ensures { (result ≡ field file.now at 2) × (result < 65536) }
-{
-    wide(file[at]) + 256 * wide(file[at + 1])
-}
-
-pub fn read4(file: &[u8], at: usize) -> u64
-    requires { at + 4 ≤ length file.now }
-    ensures { (result ≡ field file.now at 4) × (result < 4294967296) }
-{
-    read2(file, at) + 65536 * read2(file, at + 2)
-}
-
-pub fn read8(file: &[u8], at: usize) -> u64
-    requires { at + 8 ≤ length file.now }
-    ensures { result ≡ field file.now at 8 }
-{
-    read4(file, at) + 4294967296 * read4(file, at + 4)
-}
-
-// The number's bytes, from place `at` on.
+// The number's `width` bytes, from place `at` on.
 pub fn put(file: &mut [u8], at: usize, width: usize, v: u64)
     requires { at + width ≤ length file.old }
     ensures { file.new ≡ paste file.old at (bytes_of width v) width }
 {
     let mut rest = v;
-    let mut j: usize = 0;
-    while j < width {
-        file[at + j] = (rest % 256) as u8;
-        rest = rest / 256;
-        j += 1;
+    let bytes = &mut file[at..at + width];
+    for byte in bytes.iter_mut() {
+        *byte = (rest % 256) as u8;
+        rest /= 256;
     }
 }

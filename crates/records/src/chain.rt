@@ -1,31 +1,50 @@
-// The chain of a file's records.
-ghost use Rattle.std.specs.Prelude.{◌≡◌, length};
-ghost use Rattle.records.specs.Chain.{chain_of, chain_length, walk, Walks};
+// A file's records, and their chain.
+ghost use Rattle.std.specs.Prelude.{◌≡◌, ◌<◌, length};
+ghost use Rattle.records.specs.Chain.{record_count, next_at, piece_at, chain_of, chain_length, walk, Walks};
 ghost use Rattle.records.specs.Tables.{table_of};
 
-use crate::Table;
-use crate::bytes::{read2, read4, read8};
+use crate::bytes::read;
+use crate::{Piece, Table};
 
-// The number of records on the chain; 0 where a next index is past the end, or the chain does not end. A chain of more
+// Record k's next index, and what else it holds.
+fn next_at(file: &[u8], k: usize) -> usize
+    requires { k < record_count file.now }
+    ensures { result ≡ next_at file.now k }
+{
+    read(file, 32 * k, 2) as usize
+}
+
+fn piece_at(file: &[u8], k: usize) -> Piece
+    requires { k < record_count file.now }
+    ensures { result ≡ piece_at file.now k }
+{
+    let at = 32 * k;
+    Piece {
+        kind: read(file, at + 2, 2),
+        position: read(file, at + 4, 4),
+        first: read(file, at + 8, 8),
+        second: read(file, at + 16, 8),
+        third: read(file, at + 24, 8),
+    }
+}
+
+// The number of records on the chain; none where a next index is past the end, or the chain does not end. A chain of more
 // records than the file has meets one twice.
-pub fn chain_length(file: &[u8]) -> usize
+pub fn chain_length(file: &[u8]) -> Option<usize>
     ensures { result ≡ chain_length (chain_of file.now) }
 {
     let count = file.len() / 32;
     let mut k: usize = 0;
-    let mut met: usize = 0;
-    while met < count {
+    for met in 0..count {
         if count <= k {
-            return 0;
+            return None;
         }
-        met += 1;
-        let next = read2(file, 32 * k);
-        if next == 0 {
-            return met;
+        k = next_at(file, k);
+        if k == 0 {
+            return Some(met + 1);
         }
-        k = next as usize;
     }
-    0
+    None
 }
 
 // The records of one kind among the `count` of the chain.
@@ -33,25 +52,11 @@ pub fn collect(file: &[u8], count: usize, kind: u64) -> Table
     requires { Walks file.now count 0 }
     ensures { result ≡ table_of kind (walk file.now count 0) }
 {
-    let mut words = [0u64; 3600];
-    let mut filled = [false; 1200];
+    let mut table = Table::new();
     let mut k: usize = 0;
-    let mut left = count;
-    while 0 < left {
-        let at = 32 * k;
-        k = read2(file, at) as usize;
-        left -= 1;
-        let position = read4(file, at + 4);
-        if read2(file, at + 2) == kind {
-            let placed = position < 1200;
-            if placed {
-                let p = position as usize;
-                words[3 * p] = read8(file, at + 8);
-                words[3 * p + 1] = read8(file, at + 16);
-                words[3 * p + 2] = read8(file, at + 24);
-                filled[p] = true;
-            }
-        }
+    for _ in 0..count {
+        table.lay(kind, piece_at(file, k));
+        k = next_at(file, k);
     }
-    Table { words, filled }
+    table
 }

@@ -3,10 +3,21 @@
 
 pub mod bytes;
 pub mod chain;
-pub mod compared;
 pub mod laid;
+pub mod tables;
 
-// The records of one kind: the words of position k stand at 3k, and filled[k] says whether there is such a record.
+// What a record holds beside its next index.
+#[derive(Clone, Copy)]
+pub struct Piece {
+    pub kind: u64,
+    pub position: u64,
+    pub first: u64,
+    pub second: u64,
+    pub third: u64,
+}
+
+// The records of one kind: the words of position k stand at 3k, and filled[k] says whether there is such a record. It is no
+// array of options: a kind's rows run across its records, and are read from the words as they lie.
 #[derive(Clone, Copy)]
 pub struct Table {
     pub words: [u64; 3600],

@@ -1,4 +1,5 @@
 -- THE RECORDS ON A CHAIN: they are taken exactly where they are those of a sound state of the machine, each once, in any order; else 13.
+use Rattle.std.specs.Prelude.{Ok, Err, Result}
 use Prim.Native.Nat.{ℕ, ◌≤◌}
 use native.Mathlib.Omega.{arith}
 use mathlib.Core.List.Permᴰ
@@ -12,7 +13,7 @@ use Rattle.state.specs.Sound.{sound_state}
 use Rattle.state.specs.declared.State.{State}
 use Rattle.state.proofs.Flags.{true-and, and-true}
 use Rattle.records.specs.Tables.{agrees, table_of}
-use Rattle.records.specs.Chain.{Piece}
+use Rattle.records.specs.declared.Piece.{Piece}
 use Rattle.records.specs.declared.Table.{Table}
 use Rattle.records.proofs.Sections.{tables-of, agrees-perm, agrees-exactly}
 use Rattle.records.proofs.Tabled.{full_table}
@@ -25,11 +26,9 @@ use Rattle.kinds.proofs.Saving.{state-back}
 use Rattle.kinds.proofs.Few.{kind-few}
 use Rattle.saved.specs.File.{pieces_of}
 use Rattle.saved.specs.Saves.{Of}
-use Rattle.saved.specs.Restore.{state_on, taken, refuse, content_of}
+use Rattle.saved.specs.Restore.{state_on, content_of}
 use Rattle.saved.specs.declared.FileRefusal.TheVariants.{BadContent}
-use Rattle.saved.specs.declared.Restored.{Restored}
 use Rattle.saved.specs.declared.FileRefusal.{FileRefusal}
-use Rattle.saved.specs.declared.RestoreAnswer.TheVariants as R
 use Rattle.saved.proofs.Wrote.{roomy}
 
 -- ---- a sound state's own records, in any order
@@ -56,88 +55,94 @@ module _ (s : State) (e : sound_state s ≡ true) (p : TypedState s) where
         (words 5 (omega arith) (omega arith) i) (words 6 (omega arith) (omega arith) i))
         ∙ state-back s e p
 
-    pub own-taken : (old : State) → content_of old rs ≡ taken s
+    pub own-taken : content_of rs ≡ Ok s
     unfolding content_of pieces_of
-    own-taken old =
-        (λ i. cond (sound_state (state-on i) && agrees 6 rs (kind_words (state-on i))) (taken (state-on i)) (refuse BadContent old))
-        ∙ ap (λ (b : Bool). cond b (taken s) (refuse BadContent old)) (and-true e ((agrees-exactly (kind_words s) 6 rs few).1 r))
+    own-taken =
+        (λ i. cond (sound_state (state-on i) && agrees 6 rs (kind_words (state-on i))) (Ok (state-on i)) (Err BadContent))
+        ∙ ap (λ (b : Bool). cond b (Ok s) (Err BadContent)) (and-true e ((agrees-exactly (kind_words s) 6 rs few).1 r))
 
 -- ---- what is read
 
-pub apart : (r : FileRefusal) → R.Refused r ≡ R.Taken → ⊥
+pub apart : {S : Type 0} {s : S} (r : FileRefusal) → ◌≡◌ {A = Result S FileRefusal} (Err r) (Ok s) → ⊥
 apart r e = let z : ◌≡◌ {A = ℕ} 0 1 = cc in omega arith
+
+-- a state that is read
+given : State → Result State FileRefusal → State
+given s (Ok t) = t
+given s (Err r) = s
 
 pub record Read (rs : List Piece) (s : State) : Type 0 where
   pub is : state_on rs ≡ s
   pub sound : sound_state s ≡ true
   pub agree : agrees 6 rs (kind_words s) ≡ true
 
-module _ (old : State) (rs : List Piece) where
+module _ (rs : List Piece) where
   -- one of two: taken or refused
-  pub content-cases : (content_of old rs ≡ taken (state_on rs)) ⊎ (content_of old rs ≡ refuse BadContent old)
+  pub content-cases : (content_of rs ≡ Ok (state_on rs)) ⊎ (content_of rs ≡ Err BadContent)
   unfolding content_of
   content-cases = go (sound_state (state_on rs) && agrees 6 rs (kind_words (state_on rs)))
     where
-      go : (b : Bool) → (cond b (taken (state_on rs)) (refuse BadContent old) ≡ taken (state_on rs)) ⊎ (cond b (taken (state_on rs)) (refuse BadContent old) ≡ refuse BadContent old)
+      go : (b : Bool) → (cond b (Ok (state_on rs)) (Err BadContent) ≡ Ok (state_on rs)) ⊎ (cond b (Ok (state_on rs)) (Err BadContent) ≡ Err BadContent)
       go true = inl refl
       go false = inr refl
 
   module _ (s : State) where
-    pub read : content_of old rs ≡ taken s → Read rs s
-    unfolding content_of
+    pub read : content_of rs ≡ Ok s → Read rs s
+    unfolding content_of given
     read e = go (sound_state (state_on rs) && agrees 6 rs (kind_words (state_on rs))) refl e
       where
-        go : (b : Bool) → (sound_state (state_on rs) && agrees 6 rs (kind_words (state_on rs))) ≡ b → cond b (taken (state_on rs)) (refuse BadContent old) ≡ taken s → Read rs s
+        go : (b : Bool) → (sound_state (state_on rs) && agrees 6 rs (kind_words (state_on rs))) ≡ b → cond b (Ok (state_on rs)) (Err BadContent) ≡ Ok s → Read rs s
         go true q d =
             let r = true-and (sound_state (state_on rs)) (agrees 6 rs (kind_words (state_on rs))) q in
-            let is : state_on rs ≡ s = ap (λ (t : Restored). t.state) d in
+            let is : state_on rs ≡ s = ap (given s) d in
             record { is = is; sound = subst (λ (t : State). sound_state t ≡ true) is r.0; agree = subst (λ (t : State). agrees 6 rs (kind_words t) ≡ true) is r.1 }
-        go false q d = absurd (apart BadContent (ap (λ (t : Restored). t.answer) d))
+        go false q d = absurd (apart BadContent d)
 
     -- THE CONVERSE
-    pub content-exactly : content_of old rs ≡ taken s → (sound_state s ≡ true) × Permᴰ rs (pieces_of s)
+    pub content-exactly : content_of rs ≡ Ok s → (sound_state s ≡ true) × Permᴰ rs (pieces_of s)
     unfolding pieces_of
     content-exactly e = let r = read e in (r.sound, agrees-perm (kind_words s) 6 rs r.agree)
 
   -- what is not taken is refused by 13
-  pub refused-unless : ((s : State) → content_of old rs ≡ taken s → ⊥) → content_of old rs ≡ refuse BadContent old
+  pub refused-unless : ((s : State) → content_of rs ≡ Ok s → ⊥) → content_of rs ≡ Err BadContent
   refused-unless h = ⊎_elim (λ e. absurd (h (state_on rs) e)) (λ e. e) content-cases
 
-  pub refused-not-taken : (s : State) → content_of old rs ≡ refuse BadContent old → content_of old rs ≡ taken s → ⊥
-  refused-not-taken s e d = apart BadContent (ap (λ (t : Restored). t.answer) (sym e ∙ d))
+  pub refused-not-taken : (s : State) → content_of rs ≡ Err BadContent → content_of rs ≡ Ok s → ⊥
+  refused-not-taken s e d = apart BadContent (sym e ∙ d)
 
 -- what is taken is a state of the machine
-taken-typed : (old : State) (rs : List Piece) (s : State) → content_of old rs ≡ taken s → TypedState s
-taken-typed old rs s e =
-    let r = read old rs s e in
+taken-typed : (rs : List Piece) (s : State) → content_of rs ≡ Ok s → TypedState s
+taken-typed rs s e =
+    let r = read rs s e in
     subst TypedState r.is (decoded (table_of 1 rs).words (table_of 2 rs).words (table_of 3 rs).words (table_of 4 rs).words (table_of 5 rs).words (table_of 6 rs).words
     (subst (λ (t : State). sound_state t ≡ true) (sym r.is) r.sound))
 
 -- ---- exactly
 
-module _ (old : State) (rs : List Piece) where
-  pub taken-exactly : (s : State) → (content_of old rs ≡ taken s) ↔ Of rs s
+module _ (rs : List Piece) where
+  pub taken-exactly : (s : State) → (content_of rs ≡ Ok s) ↔ Of rs s
   taken-exactly s = (
-    λ e. let r = content-exactly old rs s e in record { sound = r.0; typed = taken-typed old rs s e; records = r.1 },
-    λ o. own-taken s o.sound o.typed rs o.records old,
+    λ e. let r = content-exactly rs s e in record { sound = r.0; typed = taken-typed rs s e; records = r.1 },
+    λ o. own-taken s o.sound o.typed rs o.records,
   )
 
-  pub refused-exactly : (content_of old rs ≡ refuse BadContent old) ↔ ((s : State) → Of rs s → ⊥)
+  pub refused-exactly : (content_of rs ≡ Err BadContent) ↔ ((s : State) → Of rs s → ⊥)
   refused-exactly = (
-    λ e s o. refused-not-taken old rs s e ((taken-exactly s).1 o),
-    λ h. refused-unless old rs (λ s e. h s ((taken-exactly s).0 e)),
+    λ e s o. refused-not-taken rs s e ((taken-exactly s).1 o),
+    λ h. refused-unless rs (λ s e. h s ((taken-exactly s).0 e)),
   )
 
 -- there is one at most
 pub one_state : (rs : List Piece) (s t : State) → Of rs s → Of rs t → s ≡ t
-one_state rs s t a b = ap (λ (r : Restored). r.state) (sym ((taken-exactly s rs s).1 a) ∙ (taken-exactly s rs t).1 b)
+unfolding given
+one_state rs s t a b = ap (given s) (sym ((taken-exactly rs s).1 a) ∙ (taken-exactly rs t).1 b)
 
 -- "The reader follows the chain wherever its records stand": the same records in another order are read the same
-pub any_order : (old : State) (rs qs : List Piece) → Permᴰ rs qs → content_of old rs ≡ content_of old qs
-any_order old rs qs r = ⊎_elim
-    (λ e. e ∙ sym ((taken-exactly old qs (state_on rs)).1 (moved (Permᴰ.symm r) ((taken-exactly old rs (state_on rs)).0 e))))
-    (λ e. e ∙ sym (refused-unless old qs (λ s d. refused-not-taken old rs s e ((taken-exactly old rs s).1 (moved r ((taken-exactly old qs s).0 d))))))
-    (content-cases old rs)
+pub any_order : (rs qs : List Piece) → Permᴰ rs qs → content_of rs ≡ content_of qs
+any_order rs qs r = ⊎_elim
+    (λ e. e ∙ sym ((taken-exactly qs (state_on rs)).1 (moved (Permᴰ.symm r) ((taken-exactly rs (state_on rs)).0 e))))
+    (λ e. e ∙ sym (refused-unless qs (λ s d. refused-not-taken rs s e ((taken-exactly rs s).1 (moved r ((taken-exactly qs s).0 d))))))
+    (content-cases rs)
   where
     moved : {ps qs : List Piece} {s : State} → Permᴰ ps qs → Of qs s → Of ps s
     moved t o = record { sound = o.sound; typed = o.typed; records = Permᴰ.trans t o.records }

@@ -1,4 +1,5 @@
 -- What the contracts of `save` and `restore` say together: f is the lent file, n the length that `save` answers.
+use Rattle.std.specs.Prelude.{Result, Ok, Err}
 use Prim.Native.Nat.{ℕ, ◌≤◌}
 use native.Mathlib.Omega.{arith}
 use mathlib.Core.Path.{◌≡◌, refl, sym, ap, ◌∙◌}
@@ -14,32 +15,30 @@ use Rattle.saved.specs.File.{file_of}
 use Rattle.saved.specs.Restore.{taken, restore_of}
 use Rattle.saved.specs.Save.{save_of, saved_in}
 use Rattle.saved.specs.declared.FileRefusal.TheVariants.{BadFile, BadContent}
-use Rattle.saved.specs.declared.SaveAnswer.{SaveAnswer}
 use Rattle.saved.specs.declared.FileRefusal.{FileRefusal}
-use Rattle.saved.specs.declared.SaveAnswer.TheVariants.{Length, Refused}
 use Rattle.saved.proofs.RoundTrip.{Savable, restored-save}
 
-is_length : SaveAnswer → ℕ
-is_length (Length n) = 1
-is_length (Refused r) = 0
+is_length : Result ℕ FileRefusal → ℕ
+is_length (Ok n) = 1
+is_length (Err r) = 0
 
-length_of : SaveAnswer → ℕ
-length_of (Length n) = n
-length_of (Refused r) = 0
+length_of : Result ℕ FileRefusal → ℕ
+length_of (Ok n) = n
+length_of (Err r) = 0
 
 module _ (s : State) (f : List ℕ) where
   abbrev size : ℕ
   size = length (file_of s)
 
-  answer : Bool → Bool → SaveAnswer
-  answer sound short = cond sound (cond short (Refused BadFile) (Length size)) (Refused BadContent)
+  answer : Bool → Bool → Result ℕ FileRefusal
+  answer sound short = cond sound (cond short (Err BadFile) (Ok size)) (Err BadContent)
 
   answered : (x y : Bool) → sound_state s ≡ x → ltb (length f) size ≡ y → save_of s (length f) ≡ answer x y
   unfolding save_of answer
-  answered x y p q = λ i. cond (p i) (cond (q i) (Refused BadFile) (Length size)) (Refused BadContent)
+  answered x y p q = λ i. cond (p i) (cond (q i) (Err BadFile) (Ok size)) (Err BadContent)
 
   -- where `save` answers a length, the file starts with the state's file, and is then as it was
-  written : (x y : Bool) → sound_state s ≡ x → ltb (length f) size ≡ y → (n : ℕ) → answer x y ≡ Length n → (n ≡ size) × (sound_state s ≡ true) × (saved_in s f ≡ file_of s ++ drop size f)
+  written : (x y : Bool) → sound_state s ≡ x → ltb (length f) size ≡ y → (n : ℕ) → answer x y ≡ Ok n → (n ≡ size) × (sound_state s ≡ true) × (saved_in s f ≡ file_of s ++ drop size f)
   unfolding saved_in answer is_length length_of
   written true false p q n e =
       let l : size ≤ length f = ltb-false (length f) size q in
@@ -48,13 +47,13 @@ module _ (s : State) (f : List ℕ) where
   written false y p q n e = let z = ap is_length e in absurd (omega arith)
 
   -- where it refuses, the file is as it was
-  unwritten : (x y : Bool) → sound_state s ≡ x → ltb (length f) size ≡ y → (r : FileRefusal) → answer x y ≡ Refused r → saved_in s f ≡ f
+  unwritten : (x y : Bool) → sound_state s ≡ x → ltb (length f) size ≡ y → (r : FileRefusal) → answer x y ≡ Err r → saved_in s f ≡ f
   unfolding saved_in answer is_length
   unwritten true false p q r e = let z = ap is_length e in absurd (omega arith)
   unwritten true true p q r e = λ i. cond (p i && lt-leb size (length f) (ltb-true (length f) size q) i) (file_of s ++ drop size f) f
   unwritten false y p q r e = λ i. cond (p i && leb size (length f)) (file_of s ++ drop size f) f
 
-  module _ (n : ℕ) (e : save_of s (length f) ≡ Length n) where
+  module _ (n : ℕ) (e : save_of s (length f) ≡ Ok n) where
     all : (n ≡ size) × (sound_state s ≡ true) × (saved_in s f ≡ file_of s ++ drop size f)
     all = written (sound_state s) (ltb (length f) size) refl refl n (sym (answered (sound_state s) (ltb (length f) size) refl refl) ∙ e)
 
@@ -76,6 +75,6 @@ module _ (s : State) (f : List ℕ) where
     pub restored : (old : State) → Savable s → restore_of old (take n (saved_in s f)) ≡ taken s
     restored old v = ap (restore_of old) bytes-written ∙ restored-save s v old
 
-  pub refused-untouched : (r : FileRefusal) → save_of s (length f) ≡ Refused r → saved_in s f ≡ f
+  pub refused-untouched : (r : FileRefusal) → save_of s (length f) ≡ Err r → saved_in s f ≡ f
   refused-untouched r e =
       unwritten (sound_state s) (ltb (length f) size) refl refl r (sym (answered (sound_state s) (ltb (length f) size) refl refl) ∙ e)

@@ -1,4 +1,5 @@
 -- "Restoring a save yields the very state that was saved", and "equal states have equal bytes", different ones different.
+use Rattle.std.specs.Prelude.{Err}
 use Prim.Native.Nat.{ℕ, ◌^◌, ◌≤◌, ◌<◌}
 use native.Mathlib.Omega.{arith}
 use mathlib.Core.List.Permᴰ
@@ -18,7 +19,7 @@ use Rattle.kinds.proofs.Typed.{measured-of}
 use Rattle.kinds.proofs.Small.{kinds-small}
 use Rattle.kinds.proofs.Few.{kind-few}
 use Rattle.saved.specs.File.{pieces_of, file_of}
-use Rattle.saved.specs.Restore.{taken, refuse, chained, restore_of}
+use Rattle.saved.specs.Restore.{taken, chained, state_read, handed_back, restore_of}
 use Rattle.saved.specs.declared.FileRefusal.TheVariants.{BadFile}
 use Rattle.saved.specs.declared.Restored.{Restored}
 use Rattle.saved.proofs.Wrote.{pieces-few, roomy, total}
@@ -53,11 +54,12 @@ module _ (s : State) (v : Savable s) where
 
   -- THE ROUND TRIP, whatever was there before
   pub restored-save : (old : State) → restore_of old (file_of s) ≡ taken s
-  unfolding restore_of file_of
+  unfolding restore_of state_read file_of
   restored-save old =
-      ap (λ (b : Bool). cond b (refuse BadFile old) (chained old (chain_of (file_of_pieces (pieces_of s))))) (file-fits (pieces_of s) some-pieces)
-      ∙ ap (chained old) (chain-all (pieces_of s) some-pieces few-pieces all_fit)
-      ∙ own-taken s v.sound p (pieces_of s) (Permᴰ.refl (pieces_of s)) old
+      ap (handed_back old)
+      (ap (λ (b : Bool). cond b (Err BadFile) (chained (chain_of (file_of_pieces (pieces_of s))))) (file-fits (pieces_of s) some-pieces)
+      ∙ ap chained (chain-all (pieces_of s) some-pieces few-pieces all_fit)
+      ∙ own-taken s v.sound p (pieces_of s) (Permᴰ.refl (pieces_of s)))
 
 -- "so equal states have equal bytes": that is `file_of` being a definition. And different ones have different bytes:
 pub bytes-tell : (s t : State) → Savable s → Savable t → file_of s ≡ file_of t → s ≡ t

@@ -4,23 +4,25 @@ use native.Mathlib.Omega.{arith}
 use native.Mathlib.Numerals.{add-one}
 use mathlib.Core.Path.{◌≡◌, refl, sym, ap, ◌∙◌, subst}
 use mathlib.Core.Bool.{true}
-use mathlib.Core.List.{List, [], ◌++◌}
-use lib.ListN.{length, drop, length-append, length-drop}
+use mathlib.Core.List.{List, [], ◌∷◌, ◌++◌}
+use lib.ListN.{length, drop, get_or, length-append, length-drop}
 use lib.Seq.{paste}
 use Rattle.state.specs.Sound.{sound_state}
 use Rattle.state.specs.View.{candidate_count, parent_count}
 use Rattle.state.specs.declared.State.{State}
-use Rattle.state.proofs.Measured.{Measured}
+use Rattle.state.proofs.Measured.{Measured, arrays-of}
 use Rattle.state.proofs.Tidy.{sound-few}
 use Rattle.state.proofs.Whole.{of-sound, few-candidates, few-parents}
 use Rattle.records.specs.Tables.{sections_to, records_for, pieces_from, section}
-use Rattle.records.specs.Chain.{Piece, records_from, file_of_pieces}
+use Rattle.records.specs.declared.Piece.{Piece}
+use Rattle.records.specs.Chain.{records_from, file_of_pieces}
 use Rattle.records.proofs.Pasted.{front-more}
 use Rattle.records.proofs.Written.{records-length}
-use Rattle.records.proofs.Recorded.{bytes-to-length, bytes_to, pieces-length, pieces-padded, records-append}
-use Rattle.kinds.specs.Kinds.{kind_words, Roomy, section_for, count_words}
+use Rattle.records.proofs.Recorded.{pieces-length, records-append}
+use Rattle.kinds.specs.Kinds.{kind_number, kind_words, Roomy, count_words}
 use Rattle.kinds.specs.Rows.{setup_words}
-use Rattle.kinds.specs.declared.Section.{Section}
+use Rattle.kinds.specs.declared.kind.Kind.{Kind}
+use Rattle.kinds.specs.declared.kind.Kind.TheVariants as K
 use Rattle.kinds.proofs.Few.{few_words}
 use Rattle.kinds.proofs.Sectioned.{dims_length, trials_length, parents_length, candidates_length}
 use Rattle.saved.specs.File.{pieces_of, file_of}
@@ -56,6 +58,19 @@ pub none_below : (s : State) → pieces_below s 1 ≡ []
 unfolding pieces_below sections_to
 none_below s = refl
 
+-- the kinds in the writer's order have the numbers from 1 up
+abbrev pub all_kinds : List Kind
+all_kinds = K.Setup ∷ K.Counts ∷ K.Dimensions ∷ K.Trials ∷ K.Parents ∷ K.Candidates ∷ []
+
+pub numbered : (i : ℕ) (d : Kind) → i < 6 → kind_number (get_or all_kinds i d) ≡ i + 1
+numbered zero d h = refl
+numbered (suc zero) d h = refl
+numbered (suc (suc zero)) d h = refl
+numbered (suc (suc (suc zero))) d h = refl
+numbered (suc (suc (suc (suc zero)))) d h = refl
+numbered (suc (suc (suc (suc (suc zero))))) d h = refl
+numbered (suc (suc (suc (suc (suc (suc i)))))) d h = absurd (omega arith)
+
 -- the records so far and what the file had after them
 abbrev pub Sofar : State → ℕ → List ℕ → ℕ → ℕ → List ℕ → Type 0
 Sofar s count f kind k g = (k ≡ length (pieces_below s kind)) × (g ≡ records_from count 0 (pieces_below s kind) ++ drop (32 * k) f)
@@ -65,9 +80,12 @@ module _ (s : State) (count : ℕ) (f : List ℕ) (c : count ≡ length (pieces_
   unfolding records_from
   sofar-first = (sym (ap length (none_below s)), ap (λ (ps : List Piece). records_from count 0 ps ++ drop 0 f) (sym (none_below s)))
 
-  module _ (kind k : ℕ) (g : List ℕ) (l : kind < 7) (p : Sofar s count f kind k g) (t : Section) (e : t ≡ section_for (kind_words s kind)) (m : ℕ) (q : m ≡ records_for t.n) where
+  module _ (kind k : ℕ) (g ws : List ℕ) (l : kind < 7) (p : Sofar s count f kind k g) (e : ws ≡ kind_words s kind) where
+    abbrev m : ℕ
+    m = records_for (length ws)
+
     m-is : m ≡ records_for (length (kind_words s kind))
-    m-is = q ∙ ap (λ (u : Section). records_for u.n) e
+    m-is = ap (λ (u : List ℕ). records_for (length u)) e
 
     pub sofar-room : k + m ≤ count
     sofar-room =
@@ -87,21 +105,20 @@ module _ (s : State) (count : ℕ) (f : List ℕ) (c : count ≡ length (pieces_
         let z = p.0 in
         omega arith)
 
-    pub sofar-next : (g' : List ℕ) → g' ≡ paste g (32 * k) (bytes_to count k kind t.words m) (32 * m) → Sofar s count f (kind + 1) (k + m) g'
-    sofar-next g' w =
+    pub sofar-next : (g' : List ℕ) (kd : ℕ) → kd ≡ kind → g' ≡ paste g (32 * k) (records_from count k (section kd ws)) (32 * m) → Sofar s count f (kind + 1) (k + m) g'
+    sofar-next g' kd z w =
         let ps = pieces_below s kind in
-        let qs = section kind (kind_words s kind) in
-        let bytes : bytes_to count k kind t.words m ≡ records_from count k qs =
-        ap (λ (u : Section). bytes_to count k kind u.words m) e
-        ∙ ap (records_from count k) (pieces-padded kind 3600 (kind_words s kind) m 0 ∙ ap (λ (n : ℕ). pieces_from kind (kind_words s kind) n 0) m-is) in
+        let qs = section kd ws in
+        let is : qs ≡ section kind (kind_words s kind) = λ i. section (z i) (e i) in
         let la : length (records_from count 0 ps) ≡ 32 * k = records-length count 0 ps ∙ ap (λ (n : ℕ). 32 * n) (sym p.0) in
-        let lb : length (bytes_to count k kind t.words m) ≡ 32 * m = bytes-to-length count k kind t.words m in
+        let lb : length (records_from count k qs) ≡ 32 * m = records-length count k qs ∙ ap (λ (n : ℕ). 32 * n) (pieces-length kd ws m 0) in
         let long : 32 * (k + m) ≡ 32 * k + 32 * m = omega arith in
         let from : k ≡ 0 + length ps = let z = p.0 in omega arith in (
           let a = below_length s kind in let b = p.0 in let d = m-is in more a b d,
-          front-more f g g' (records_from count 0 ps) (bytes_to count k kind t.words m) (32 * k) (32 * m) (32 * (k + m)) la lb long p.1 w
-              ∙ ap (λ (r : List ℕ). (records_from count 0 ps ++ r) ++ drop (32 * (k + m)) f) (bytes ∙ ap (λ (j : ℕ). records_from count j qs) from)
-              ∙ ap (λ (r : List ℕ). r ++ drop (32 * (k + m)) f) (sym (records-append count 0 ps qs) ∙ ap (records_from count 0) (sym (below_next s kind)) ∙ ap (λ (j : ℕ). records_from count 0 (pieces_below s j)) (sym (add-one kind))),
+          front-more f g g' (records_from count 0 ps) (records_from count k qs) (32 * k) (32 * m) (32 * (k + m)) la lb long p.1 w
+              ∙ ap (λ (r : List ℕ). (records_from count 0 ps ++ r) ++ drop (32 * (k + m)) f) (λ i. records_from count (from i) (is i))
+              ∙ ap (λ (r : List ℕ). r ++ drop (32 * (k + m)) f)
+              (sym (records-append count 0 ps (section kind (kind_words s kind))) ∙ ap (records_from count 0) (sym (below_next s kind)) ∙ ap (λ (j : ℕ). records_from count 0 (pieces_below s j)) (sym (add-one kind))),
         )
       where
         more : length (pieces_below s (suc kind)) ≡ length (pieces_below s kind) + records_for (length (kind_words s kind)) → k ≡ length (pieces_below s kind) → m ≡ records_for (length (kind_words s kind))
@@ -117,18 +134,12 @@ module _ (s : State) (count : ℕ) (f : List ℕ) (c : count ≡ length (pieces_
       ap (λ (n : ℕ). 32 * n) (p.0 ∙ ap (λ (j : ℕ). length (pieces_below s j)) e ∙ ap length (all-below s)) ∙ sym (records-length (length (pieces_of s)) 0 (pieces_of s)) in
       p.1 ∙ (λ i. whole i ++ drop (long i) f)
 
-  pub sofar-same : (kind k : ℕ) (g : List ℕ) → kind ≡ 7 → Sofar s count f kind k g → length g ≡ length f
-  unfolding file_of
-  sofar-same kind k g e p =
-      let long = records-length (length (pieces_of s)) 0 (pieces_of s) in
-      ap length (sofar-last kind k g e p) ∙ (let a = length-append (file_of s) (drop (length (file_of s)) f) in let b = length-drop (length (file_of s)) f in omega arith)
-
 -- ---- how many records
 
 pub roomy : (s : State) → Measured s → sound_state s ≡ true → Roomy s
 roomy s m e =
     let few = sound-few s e m in
-    record { dims = (of-sound s m e).few_dims; trials = few.trials; candidates = few-candidates s m few; parents = few-parents s m few }
+    record { dims = (of-sound s (arrays-of m) e).few_dims; trials = few.trials; candidates = few-candidates s few; parents = few-parents s few }
 
 module _ (s : State) (m : Measured s) (r : Roomy s) where
   pub total : 6 + records_for (s.n_dims * 5) + records_for (s.n_trials * 2) + records_for (parent_count s * (s.n_dims + 1)) + records_for (candidate_count s * s.n_dims) ≡ length (pieces_of s)

@@ -1,7 +1,8 @@
 -- The saved file of a state: its records of kinds 1 to 6, in the writer's order, "so equal states have equal bytes".
 use Rattle.std.specs.Prelude.{ℕ, List}
 use Rattle.state.specs.declared.State.{State}
-use Rattle.records.specs.Chain.{Piece, file_of_pieces}
+use Rattle.records.specs.declared.Piece.{Piece}
+use Rattle.records.specs.Chain.{file_of_pieces}
 use Rattle.records.specs.Tables.{sections_to}
 use Rattle.kinds.specs.Kinds.{kind_words}
 

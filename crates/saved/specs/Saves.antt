@@ -3,7 +3,8 @@ use Rattle.std.specs.Prelude.{ℕ, ◌≡◌, true}
 use mathlib.Core.List.{List, Permᴰ}
 use Rattle.state.specs.declared.State.{State}
 use Rattle.state.specs.Sound.{sound_state}
-use Rattle.records.specs.Chain.{Piece, Follows, records_at, Broken}
+use Rattle.records.specs.declared.Piece.{Piece}
+use Rattle.records.specs.Chain.{Follows, records_at, Broken}
 use Rattle.kinds.specs.Typed.{TypedState}
 use Rattle.saved.specs.File.{pieces_of}
 

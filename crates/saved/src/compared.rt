@@ -1,20 +1,30 @@
-// Whether a kind's records on the chain are a state's own.
-ghost use Rattle.std.specs.Prelude.{◌≡◌, ◌≤◌, ◌<◌, length};
+// Whether the records on the chain are a state's own.
+ghost use Rattle.std.specs.Prelude.{◌≡◌};
+ghost use Rattle.std.specs.List.{list_all, zip};
 ghost use Rattle.records.specs.Tables.{holds};
-ghost use Rattle.kinds.specs.Kinds.{Roomy, kind_words};
+ghost use Rattle.kinds.specs.Kinds.{Roomy, kind_number, kind_words};
 
+use kinds::kind::Kind;
 use kinds::sections::section_of;
-use records::compared::{filled_to, same_words};
-use records::laid::records_for;
+use records::Table;
 use state::State;
 
 // The table of a kind holds the state's words of that kind, at their positions and no other.
-pub fn kind_holds<'a>(state: State, words: &'a [u64], filled: &'a [bool], kind: u64) -> bool
-    requires { Roomy state × (length words.now ≡ 3600) × (length filled.now ≡ 1200) × (0 < kind) × (kind ≤ 6) }
-    ensures { result ≡ holds (record { words = words.now; filled = filled.now }) (kind_words state kind) }
+fn kind_holds(state: &State, kind: Kind, table: &Table) -> bool
+    requires { Roomy state.now }
+    ensures { result ≡ holds table.now (kind_words state.now (kind_number kind)) }
 {
-    let s = section_of(state, kind);
-    let m = records_for(s.n);
-    let own = s.words;
-    same_words(words, &own) & filled_to(filled, m)
+    let section = section_of(state, kind);
+    table.holds(section.as_slice())
+}
+
+// So does the table of each kind.
+pub fn kinds_hold(state: &State, tables: &[Table; 6]) -> bool
+    requires { Roomy state.now }
+    ensures { result ≡ list_all (λ p. holds p.1 (kind_words state.now (kind_number p.0))) (zip Kind.ALL tables.now) }
+{
+    Kind::ALL
+        .iter()
+        .zip(tables)
+        .all(|(kind, table)| kind_holds(state, *kind, table))
 }

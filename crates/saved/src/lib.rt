@@ -1,121 +1,104 @@
 // The whole state as a saved file, and back (document 02, W2).
 #![tactic(auto)]
 
-ghost use Rattle.std.specs.Prelude.{◌≡◌, length};
+ghost use Rattle.std.specs.Prelude.{◌≡◌, length, map};
 ghost use Rattle.records.specs.Chain.{walk, Walks};
-ghost use Rattle.saved.specs.Restore.{refuse, content_of, restore_of};
+ghost use Rattle.records.specs.Tables.{table_of};
+ghost use Rattle.kinds.specs.Kinds.{kind_number};
+ghost use Rattle.saved.specs.Restore.{content_of, state_read, restore_of};
 ghost use Rattle.saved.specs.Save.{save_of, saved_in};
 
 mod compared;
 mod written;
 
-use crate::compared::kind_holds;
+use crate::compared::kinds_hold;
 use crate::written::{put_state, record_total};
+use kinds::kind::Kind;
 use opened::state_in;
+use records::Table;
 use records::chain::{chain_length, collect};
 use state::State;
-use state::sound::is_sound;
 
 // 12: an empty file, a length that is no multiple of 32, a next index past the end, a record met twice, a lent file too
 // short. 13: a state that is not sound, or records that are not those of a sound state.
-#[derive(Clone, Copy)]
+#[derive(Clone, Copy, Debug, PartialEq, Eq)]
 pub enum FileRefusal {
     BadFile,
     BadContent,
 }
 
-// The file's length in bytes, or why nothing was written.
-#[derive(Clone, Copy)]
-pub enum SaveAnswer {
-    Length(usize),
-    Refused(FileRefusal),
-}
-
-#[derive(Clone, Copy)]
-pub enum RestoreAnswer {
-    Taken,
-    Refused(FileRefusal),
-}
-
 // The state that the file holds; where it is refused, the one that came in.
 #[derive(Clone, Copy)]
 pub struct Restored {
-    pub answer: RestoreAnswer,
+    pub answer: Result<(), FileRefusal>,
     pub state: State,
 }
 
-// Writes the state's records and nothing past them.
-pub fn save(state: State, file: &mut [u8]) -> SaveAnswer
-    ensures { (result ≡ save_of state (length file.old)) × (file.new ≡ saved_in state file.old) }
+// Writes the state's records and nothing past them; answers the file's length in bytes, or why nothing was written.
+pub fn save(state: &State, file: &mut [u8]) -> Result<usize, FileRefusal>
+    ensures { (result ≡ save_of state.now (length file.old)) × (file.new ≡ saved_in state.now file.old) }
 {
-    if !is_sound(state) {
-        return SaveAnswer::Refused(FileRefusal::BadContent);
-    }
-    let count = record_total(state);
+    let count = record_total(state).ok_or(FileRefusal::BadContent)?;
     if file.len() < 32 * count {
-        return SaveAnswer::Refused(FileRefusal::BadFile);
+        return Err(FileRefusal::BadFile);
     }
     put_state(file, count, state);
-    SaveAnswer::Length(32 * count)
+    Ok(32 * count)
 }
 
-fn refused(old: State, why: FileRefusal) -> Restored
-    ensures { result ≡ refuse why old }
+// The table of each kind, of the `count` records on the chain. They are lent, since six tables on the move are 180 KB.
+#[tactic(auto, using(std::proofs::lemmas::Grind::common_steps))]
+fn collect_kinds(tables: &mut [Table; 6], file: &[u8], count: usize)
+    requires { Walks file.now count 0 }
+    ensures { tables.new ≡ map (λ kind. table_of (kind_number kind) (walk file.now count 0)) Kind.ALL }
 {
-    Restored {
-        answer: RestoreAnswer::Refused(why),
-        state: old,
+    for (k, kind) in Kind::ALL.iter().enumerate() {
+        tables[k] = collect(file, count, kind.number());
     }
 }
 
 // The state of the `count` records on the chain.
-fn content_of(old: State, file: &[u8], count: usize) -> Restored
+fn content_of(file: &[u8], count: usize) -> Result<State, FileRefusal>
     requires { Walks file.now count 0 }
-    ensures { result ≡ content_of old (walk file.now count 0) }
+    ensures { result ≡ content_of (walk file.now count 0) }
 {
-    let t1 = collect(file, count, 1);
-    let t2 = collect(file, count, 2);
-    let t3 = collect(file, count, 3);
-    let t4 = collect(file, count, 4);
-    let t5 = collect(file, count, 5);
-    let t6 = collect(file, count, 6);
-    let state = state_in(
-        &t1.words, &t2.words, &t3.words, &t4.words, &t5.words, &t6.words,
-    );
-    if !is_sound(state) {
-        return refused(old, FileRefusal::BadContent);
-    }
-    let agrees = kind_holds(state, &t1.words, &t1.filled, 1)
-        & kind_holds(state, &t2.words, &t2.filled, 2)
-        & kind_holds(state, &t3.words, &t3.filled, 3)
-        & kind_holds(state, &t4.words, &t4.filled, 4)
-        & kind_holds(state, &t5.words, &t5.filled, 5)
-        & kind_holds(state, &t6.words, &t6.filled, 6)
-        & (count == record_total(state));
-    if !agrees {
-        return refused(old, FileRefusal::BadContent);
-    }
-    Restored {
-        answer: RestoreAnswer::Taken,
-        state,
+    let mut tables = [Table::new(); 6];
+    collect_kinds(&mut tables, file, count);
+    let state = state_in(&tables);
+    let total = record_total(&state).ok_or(FileRefusal::BadContent)?;
+    if count == total && kinds_hold(&state, &tables) {
+        Ok(state)
+    } else {
+        Err(FileRefusal::BadContent)
     }
 }
 
+// The state that the file holds, or why it holds none.
+pub fn read(file: &[u8]) -> Result<State, FileRefusal>
+    ensures { result ≡ state_read file.now }
+{
+    if file.is_empty() || file.len() % 32 != 0 {
+        return Err(FileRefusal::BadFile);
+    }
+    let Some(count) = chain_length(file) else {
+        return Err(FileRefusal::BadFile);
+    };
+    content_of(file, count)
+}
+
 // The state of the file; where it is refused, the one that came in.
+#[tactic(auto, unfolding(crate::specs::Restore::restore_of))]
 pub fn restore(old: State, file: &[u8]) -> Restored
     ensures { result ≡ restore_of old file.now }
 {
-    let n = file.len();
-    if n == 0 {
-        return refused(old, FileRefusal::BadFile);
+    match read(file) {
+        Ok(state) => Restored {
+            answer: Ok(()),
+            state,
+        },
+        Err(why) => Restored {
+            answer: Err(why),
+            state: old,
+        },
     }
-    if n % 32 != 0 {
-        return refused(old, FileRefusal::BadFile);
-    }
-    let count = chain_length(file);
-    let chainless = count == 0;
-    if chainless {
-        return refused(old, FileRefusal::BadFile);
-    }
-    content_of(old, file, count)
 }

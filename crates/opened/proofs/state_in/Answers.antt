@@ -1,22 +1,19 @@
 -- `state_in` meets its contract: each field is the definition's (Opening).
-use Prim.Native.Nat.{ℕ, min}
-use mathlib.Core.Path.{ap, ◌∙◌}
-use Rattle.opened.proofs.Opening.{opened}
+use Rattle.std.proofs.Common.{◌∙◌, ℕ, min, ap, arith}
+use Rattle.kinds.specs.Opened.{words_at}
+use Rattle.opened.proofs.Opening.{parents_fit, candidates_fit, opened}
 use Rattle.opened.proofs.state_in.Goals as goal
+
+pub prove-unreachable-requires : goal.prove-unreachable-requires
+prove-unreachable-requires c = omega (arith, parents_fit c.min-n_parents.result c.min-d.result (omega arith) (omega arith))
+
+pub prove-unreachable-requires-2 : goal.prove-unreachable-requires-2
+prove-unreachable-requires-2 c = omega (arith, candidates_fit c.min-n_candidates.result c.min-d.result (omega arith) (omega arith))
 
 pub returns : goal.returns
 returns c =
-    let args = c.args in
-    let setup-in = c.setup_in-setup in
-    let word_first = c.word_first-first in
-    let least = c.least-d in
-    let open-dims = c.open_dims-dims in
-    let least2 = c.least in
-    let open-trials = c.open_trials-trials in
-    let parent-count = c.parent_count in
-    let least3 = c.least-2 in
-    let open-parents = c.open_parents-parents in
-    let candidate-count = c.candidate_count-n_candidates in
-    let least4 = c.least-3 in
-    let open-candidates = c.open_candidates-candidates in
-    opened args.us.now args.ns.now args.ds.now args.ts.now args.ps.now args.cs.now _ _ _ _ _ _ _ _ _ _ setup-in.ensures word_first.ensures least.ensures open-dims.ensures least2.ensures open-trials.ensures (least3.ensures ∙ ap (λ (k : ℕ). min k 160) parent-count.ensures) open-parents.ensures (least4.ensures ∙ ap (λ (k : ℕ). min k 224) candidate-count.ensures) open-candidates.ensures
+    let ts = words_at c.args.tables.now in
+    let parents = c.min-n_parents.ensures ∙ ap (λ (k : ℕ). min k 160) c.parent_count.ensures in
+    let candidates = c.min-n_candidates.ensures ∙ ap (λ (k : ℕ). min k 224) c.candidate_count.ensures in
+    opened (ts 0) (ts 1) (ts 2) (ts 3) (ts 4) (ts 5) _ _ _ _ _ _ _ _ _ _ _ _ c.setup_in.ensures c.word_option.ensures c.min-d.ensures
+    c.read_rows-dims.ensures c.min.ensures c.read_rows-trials.ensures parents c.blank_member.ensures c.read_rows-parents.ensures candidates c.blank.ensures c.read_rows-candidates.ensures

@@ -1,28 +1,20 @@
-use native.Mathlib.Omega.{arith}
-use mathlib.Core.Path.{refl}
-use borrow.Author.Rules.{rules}
+use Rattle.std.proofs.Common.{refl, arith}
 use Rattle.kinds.proofs.EntriesIn.{first, next-entry, next-choice, last}
 use Rattle.kinds.proofs.vectors.candidate_in.Goals as goal
+use Rattle.kinds.proofs.vectors.candidate_in.Goals.{then-is_continuous, else-is_continuous}
 
 pub loop-i-init : goal.loop-i-init
-loop-i-init c = (omega arith, (search rules, first _ _ _))
-
-pub loop-i-preserved-then-is_continuous : goal.loop-i-preserved-then-is_continuous
-loop-i-preserved-then-is_continuous c =
-    let pre = c.requires in
-    let loop = c.loop-i in
-    let is-continuous = c.is_continuous in
-    let if1 = c.if-is_continuous in
-    let real = c.real in
-    (omega arith, (loop.invariant.1.0, next-entry _ _ _ loop.invariant.1.0 pre.0 pre.1 _ _ loop.ci loop.i (omega arith) loop.invariant.1.1 _ _ refl _ _ is-continuous.ensures if1.true real.ensures))
+loop-i-init c = first c.args.dims.now c.args.row.now
 
 pub loop-i-preserved : goal.loop-i-preserved
 loop-i-preserved c =
-    let pre = c.requires in
     let loop = c.loop-i in
-    let is-continuous = c.is_continuous in
-    let if1 = c.if-is_continuous in
-    (omega arith, (loop.invariant.1.0, next-choice _ _ _ loop.invariant.1.0 pre.0 pre.1 _ _ loop.ci loop.i (omega arith) loop.invariant.1.1 _ _ refl _ _ is-continuous.ensures if1.false refl))
+    elim c.if-is_continuous.branch [
+      | then-is_continuous w ↦
+          next-entry _ _ c.requires.0 c.requires.1 loop.x loop.choices loop.ci loop.i (omega arith) loop.invariant _ _ refl _ _ _ _ _ c.is_continuous.ensures w.if-is_continuous.true w.real.ensures w.x-is w.choices-is w.ci-is
+      | else-is_continuous w ↦
+          next-choice _ _ c.requires.0 c.requires.1 loop.x loop.choices loop.ci loop.i (omega arith) loop.invariant _ _ refl _ _ _ _ _ c.is_continuous.ensures w.if-is_continuous.false refl w.x-is w.choices-is w.ci-is
+    ]
 
 pub returns : goal.returns
-returns c = last _ _ _ c.loop-i.invariant.1.0 _ _ c.loop-i.ci c.loop-i.i (omega arith) c.loop-i.invariant.1.1
+returns c = last _ _ _ _ c.loop-i.ci c.loop-i.i (omega arith) c.loop-i.invariant

@@ -1,79 +1,27 @@
-use native.Mathlib.Omega.{arith}
-use mathlib.Core.Path.{refl, sym, ◌∙◌}
-use Rattle.records.specs.Tables.{no_records}
-use Rattle.records.proofs.Following.{walks-on, on-next, other-kind, too_far, here, done}
+use Rattle.std.proofs.Common.{◌≡◌, ℕ, ◌+◌, ◌-◌, sym, ap, ◌∙◌, subst, arith}
+use Rattle.records.specs.Chain.{walk, Walks}
+use Rattle.records.specs.Tables.{lay, laid_on}
+use Rattle.records.proofs.Following.{left, walks-on, lays, done}
 use Rattle.records.proofs.chain.collect.Goals as goal
 
-pub loop-left-init : goal.loop-left-init
-unfolding no_records
-loop-left-init c = (c.requires, refl)
+pub loop-init : goal.loop-init
+loop-init c =
+    let z : c.args.count - 0 ≡ c.args.count = omega arith in
+    (subst (λ (n : ℕ). Walks c.args.file.now n 0) (sym z) c.requires, λ i. laid_on c.args.kind (c.new-table.ensures i) (walk c.args.file.now (z i) 0))
 
-pub overflow_mul-at : goal.overflow_mul-at
-overflow_mul-at c = omega (arith, (walks-on _ c.loop-left.left c.loop-left.k (omega arith) c.loop-left.invariant.0).0)
+pub piece_at-requires : goal.piece_at-requires
+piece_at-requires c = (walks-on _ _ _ _ (left _ c.loop.counter (omega arith)) c.loop.invariant.0).0
 
-pub read2-k-requires : goal.read2-k-requires
-read2-k-requires c = omega (arith, (walks-on _ c.loop-left.left c.loop-left.k (omega arith) c.loop-left.invariant.0).0)
+pub next_at-k-requires : goal.next_at-k-requires
+next_at-k-requires c = (walks-on _ _ _ _ (left _ c.loop.counter (omega arith)) c.loop.invariant.0).0
 
-pub overflow_add-at : goal.overflow_add-at
-overflow_add-at c = omega (arith, (walks-on _ c.loop-left.left c.loop-left.k (omega arith) c.loop-left.invariant.0).0)
-
-pub read4-position-requires : goal.read4-position-requires
-read4-position-requires c = omega (arith, (walks-on _ c.loop-left.left c.loop-left.k (omega arith) c.loop-left.invariant.0).0)
-
-pub overflow_add-at-in-loop-left : goal.overflow_add-at-in-loop-left
-overflow_add-at-in-loop-left c = omega (arith, (walks-on _ c.loop-left.left c.loop-left.k (omega arith) c.loop-left.invariant.0).0)
-
-pub read2-requires : goal.read2-requires
-read2-requires c = omega (arith, (walks-on _ c.loop-left.left c.loop-left.k (omega arith) c.loop-left.invariant.0).0)
-
-pub overflow_add-at-then-placed : goal.overflow_add-at-then-placed
-overflow_add-at-then-placed c = omega (arith, (walks-on _ c.loop-left.left c.loop-left.k (omega arith) c.loop-left.invariant.0).0)
-
-pub read8-requires : goal.read8-requires
-read8-requires c = omega (arith, (walks-on _ c.loop-left.left c.loop-left.k (omega arith) c.loop-left.invariant.0).0)
-
-pub overflow_add-at-then-placed-2 : goal.overflow_add-at-then-placed-2
-overflow_add-at-then-placed-2 c = omega (arith, (walks-on _ c.loop-left.left c.loop-left.k (omega arith) c.loop-left.invariant.0).0)
-
-pub read8-requires-then-placed : goal.read8-requires-then-placed
-read8-requires-then-placed c = omega (arith, (walks-on _ c.loop-left.left c.loop-left.k (omega arith) c.loop-left.invariant.0).0)
-
-pub overflow_add-at-then-placed-3 : goal.overflow_add-at-then-placed-3
-overflow_add-at-then-placed-3 c = omega (arith, (walks-on _ c.loop-left.left c.loop-left.k (omega arith) c.loop-left.invariant.0).0)
-
-pub read8-requires-then-placed-2 : goal.read8-requires-then-placed-2
-read8-requires-then-placed-2 c = omega (arith, (walks-on _ c.loop-left.left c.loop-left.k (omega arith) c.loop-left.invariant.0).0)
-
-pub loop-left-preserved-then-placed : goal.loop-left-preserved-then-placed
-loop-left-preserved-then-placed c =
-    let loop = c.loop-left in
-    let read2 = c.read2-k in
-    let read4 = c.read4-position in
-    let read22 = c.read2 in
-    let if1 = c.if-read2-kind in
-    let if2 = c.if-placed in
-    let read8 = c.read8 in
-    let read82 = c.read8-then-placed in
-    let read83 = c.read8-then-placed-2 in
-    (on-next _ loop.left loop.k _ (omega arith) read2.ensures.0 loop.invariant.0, sym (here _ _ loop.left loop.k loop.words loop.filled _ _ _ (omega arith) read2.ensures.0 read22.ensures.0 read4.ensures.0 _ _ _ if1.true if2.true read8.ensures read82.ensures read83.ensures) ∙ loop.invariant.1)
-
-pub loop-left-preserved-else-placed : goal.loop-left-preserved-else-placed
-loop-left-preserved-else-placed c =
-    let loop = c.loop-left in
-    let read2 = c.read2-k in
-    let read4 = c.read4-position in
-    let read22 = c.read2 in
-    let if2 = c.if-placed in
-    (on-next _ loop.left loop.k _ (omega arith) read2.ensures.0 loop.invariant.0, sym (too_far _ _ loop.left loop.k loop.words loop.filled _ _ _ (omega arith) read2.ensures.0 read22.ensures.0 read4.ensures.0 if2.false) ∙ loop.invariant.1)
-
-pub loop-left-preserved : goal.loop-left-preserved
-loop-left-preserved c =
-    let loop = c.loop-left in
-    let read2 = c.read2-k in
-    let read4 = c.read4-position in
-    let read22 = c.read2 in
-    let if1 = c.if-read2-kind in
-    (on-next _ loop.left loop.k _ (omega arith) read2.ensures.0 loop.invariant.0, sym (other-kind _ _ loop.left loop.k loop.words loop.filled _ _ _ (omega arith) read2.ensures.0 read22.ensures.0 read4.ensures.0 if1.false) ∙ loop.invariant.1)
+pub loop-preserved : goal.loop-preserved
+loop-preserved c =
+    let one = left c.args.count c.loop.counter (omega arith) in
+    let f = c.args.file.now in (
+      subst (λ (k : ℕ). Walks f (c.args.count - (c.loop.counter + 1)) k) (sym c.next_at-k.ensures) (walks-on f _ _ _ one c.loop.invariant.0).1,
+      lays f _ _ _ one c.args.kind _ c.loop.table _ _ c.next_at-k.ensures (c.lay.ensures ∙ ap (lay c.args.kind c.loop.table) c.piece_at.ensures) c.loop.invariant.1,
+    )
 
 pub returns : goal.returns
-returns c = done _ _ _ c.loop-left.left c.loop-left.k (omega arith) c.loop-left.invariant.1
+returns c = done _ _ _ _ _ (omega arith) c.loop.invariant.1
