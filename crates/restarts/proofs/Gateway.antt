@@ -1,16 +1,16 @@
 -- THE CODE'S RESTARTS: every state that typed calls lead to can be saved and comes back, so the state that a gateway holds is that of the surviving calls, and the
 -- claim of demand 3 holds of it as of one list. `TypedSetup` and `TypedCall` are what the types say of each set-up and call that the code is handed.
+use Rattle.std.specs.Prelude.{Some, Ok, Err, is_ok, Result}
 use Prim.Native.Nat.{ℕ, ◌≤◌}
 use native.Mathlib.Omega.{arith}
 use mathlib.Core.Bool.{true, cond}
 use mathlib.Core.Path.{◌≡◌, refl, sym, ap, ◌∙◌, subst}
 use mathlib.Core.List.Memᴰ
 use mathlib.Core.List.{List, [], ◌∷◌}
-use mathlib.Core.Option.{some}
 use borrow.Author.Tests.{le-ltb}
 use lib.ListN.{length}
 use Rattle.history.specs.Entry.{counted_value}
-use Rattle.ledger.specs.State.{Result, fresh}
+use Rattle.ledger.specs.State.{Returned, fresh}
 use Rattle.ledger.specs.Call.{Call}
 use Rattle.ledger.specs.Claim.{Claim, start, moments_from, end_from}
 use Rattle.ledger.specs.Words.{All}
@@ -21,7 +21,7 @@ use Rattle.ledger.proofs.Sound.{step-sound, fresh-sound}
 use Rattle.evolution.specs.declared.Setup.{Setup}
 use Rattle.kernel.specs.De.{de}
 use Rattle.kernel.proofs.Kernel.{de-laws}
-use Rattle.state.specs.Setup.{setup_verdict, is_valid}
+use Rattle.state.specs.Setup.{setup_verdict}
 use Rattle.state.specs.View.{laid, view}
 use Rattle.state.specs.declared.State.{State}
 use Rattle.state.proofs.Laid.{laid-sound, view-laid}
@@ -34,8 +34,6 @@ use Rattle.kinds.specs.Typed.{TypedSetup, Double, Word}
 use Rattle.kinds.proofs.Typed.{measured-of}
 use Rattle.saved.specs.Save.{save_of, saved_in}
 use Rattle.saved.specs.File.{file_of, pieces_of}
-use Rattle.saved.specs.declared.SaveAnswer.{SaveAnswer}
-use Rattle.saved.specs.declared.SaveAnswer.TheVariants.{Length, Refused}
 use Rattle.saved.specs.declared.FileRefusal.TheVariants.{BadFile, BadContent}
 use Rattle.saved.specs.declared.Restored.{Restored}
 use Rattle.saved.proofs.Wrote.{roomy, pieces-few}
@@ -47,6 +45,7 @@ use Rattle.restarts.proofs.Restarts.{one_list, end-led, one-claim}
 use Rattle.restarts.proofs.Keep.{step-fine, fresh-fine, FineCall}
 use Rattle.restarts.proofs.Laid.{laid-savable, FineState}
 use Rattle.restarts.proofs.Made.{TypedDim, de-makes, Doubles}
+use Rattle.saved.specs.declared.FileRefusal.{FileRefusal}
 
 -- a typed call, as `Keep` has it
 fine-call : (c : Call de) → TypedCall c → FineCall de Word Doubles TypedDim Double Word c
@@ -62,14 +61,14 @@ module _ (lent : List ℕ) (room : Room lent) (s : State) (v : Savable s) where
       let few = pieces-few s m (roomy s m v.sound) in
       omega (arith, records-length (length (pieces_of s)) 0 (pieces_of s))
 
-  pub saved-length : save_of s (length lent) ≡ Length (length (file_of s))
+  pub saved-length : save_of s (length lent) ≡ Ok (length (file_of s))
   unfolding save_of
-  saved-length = λ i. cond (v.sound i) (cond (le-ltb (length lent) (length (file_of s)) short i) (Refused BadFile) (Length (length (file_of s)))) (Refused BadContent)
+  saved-length = λ i. cond (v.sound i) (cond (le-ltb (length lent) (length (file_of s)) short i) (Err BadFile) (Ok (length (file_of s)))) (Err BadContent)
 
-  pub saved-file : saved_file s lent ≡ some (file_of s)
-  saved-file = ap (λ (r : SaveAnswer). kept_by r (saved_in s lent)) saved-length ∙ ap some (bytes-written s lent (length (file_of s)) saved-length)
+  pub saved-file : saved_file s lent ≡ Some (file_of s)
+  saved-file = ap (λ (r : Result ℕ FileRefusal). kept_by r (saved_in s lent)) saved-length ∙ ap Some (bytes-written s lent (length (file_of s)) saved-length)
 
-module _ (S : Setup) (ok : is_valid (setup_verdict S) ≡ true) (typed : TypedSetup S) where
+module _ (S : Setup) (ok : is_ok (setup_verdict S) ≡ true) (typed : TypedSetup S) where
   -- what holds of each state that typed calls lead to
   pub record Reached (s : State) : Type 0 where
     pub plain : Plain.State de
@@ -90,7 +89,7 @@ module _ (S : Setup) (ok : is_valid (setup_verdict S) ≡ true) (typed : TypedSe
         plain = (step de S k.plain c).state;
         sound = step-sound de de-laws S k.plain c k.sound;
         fine = step-fine de Word Doubles TypedDim Double Word S (de-makes S typed.seed) k.plain c k.sound.dims_few k.fine (fine-call c t);
-        is = ap (λ (x : State). stepped x c) k.is ∙ ap (λ (r : Result de State). r.state) (sampled k.plain c k.sound);
+        is = ap (λ (x : State). stepped x c) k.is ∙ ap (λ (r : Returned de State). r.state) (sampled k.plain c k.sound);
       }
 
   pub reached-fresh : Reached (fresh_state S)
@@ -110,7 +109,7 @@ module _ (S : Setup) (ok : is_valid (setup_verdict S) ≡ true) (typed : TypedSe
   led-savable cs g = reached-savable (led cs) (reached-all (fresh_state S) cs reached-fresh g)
 
   back : (cs : List (Call de)) → All TypedCall cs → (lent : List ℕ) → Room lent
-      → (file : List ℕ) × (saved_file (led cs) lent ≡ some file) × ((old : State) → restored_from old file ≡ some (led cs))
+      → (file : List ℕ) × (saved_file (led cs) lent ≡ Some file) × ((old : State) → restored_from old file ≡ Some (led cs))
   back cs g lent room =
       let v = led-savable cs g in
       (file_of (led cs), saved-file lent room (led cs) v, λ old. ap (λ (r : Restored). if_taken r.answer r.state) (restored-save (led cs) v old))

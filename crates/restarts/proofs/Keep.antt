@@ -1,22 +1,21 @@
 -- What a call keeps, for every kernel: where the generator's words, the candidates, the distributions, the values and the trial numbers that come in are of some kind, and the kernel makes only such, those of the state
 -- stay of that kind. It is said of the machine's numbers (Made).
+use Rattle.std.specs.Prelude.{Option, Some, None}
 use Prim.Native.Nat.{ℕ, zero, suc, ◌≤◌, min}
 use mathlib.Core.Path.{◌≡◌, refl, sym, subst}
 use mathlib.Core.Bool.{Bool, true, false, cond}
 use mathlib.Core.List.Memᴰ
 use mathlib.Core.List.{List, [], ◌∷◌, ◌++◌}
-use mathlib.Core.Option.{Option, none, some}
 use lib.Dec.{leb, ltb, eqb}
 use lib.Ieee.{Float, le}
 use lib.ListN.{length, take}
 use Rattle.ledger.specs.Words.{All, or_else}
 use Rattle.ledger.specs.Kernel.{Gen, Made, Parent, Kernel}
 use Rattle.ledger.specs.Call.{Call, call_refusal}
-use Rattle.ledger.specs.State.{Trial, numbers, State, fresh, start_gen, refuse}
+use Rattle.ledger.specs.State.{Trial, numbers, State, fresh, start_gen}
 use Rattle.ledger.specs.Closing.{scan, results_of, counted, store, select, new_parents, settle, reopen, close}
 use Rattle.ledger.specs.Assignment.{next_in, move, Accepted, setting_of, serve, assign}
-use Rattle.ledger.specs.Soundness.{sound_test}
-use Rattle.ledger.specs.Sample.{discovers, sampling, begin, discovery, state_refusal, accept, outcome, step, sample}
+use Rattle.ledger.specs.Sample.{discovers, sampling, begin, discovery, state_refusal, accept, outcome, step}
 use Rattle.ledger.proofs.Lists.{none≢some, some_inj, bind-some, all_nil, all_snoc}
 
 all_cons : {A : Type 0} (P : A → Type 0) (x : A) (xs : List A) → P x → All P xs → All P (x ∷ xs)
@@ -40,7 +39,7 @@ module _ (K : Kernel) (W : K.Word → Type 0) (P : K.Candidate → Type 0) (Q : 
 
   pub record Fine (s : State K) : Type 0 where
     pub word : W s.word
-    pub first : (n : ℕ) → s.first ≡ some n → N n
+    pub first : (n : ℕ) → s.first ≡ Some n → N n
     pub dims : All Q s.dims
     pub candidates : All P s.candidates
     pub trials : All (λ (t : Trial). N t.number) s.trials
@@ -50,35 +49,35 @@ module _ (K : Kernel) (W : K.Word → Type 0) (P : K.Candidate → Type 0) (Q : 
   pub record Makes (S : Setup) : Type 0 where
     pub of_seed : W (seed S)
     pub of_random : (d : Distribution) (g : Gen Word) → W g.word → W (random d g).gen.word
-    pub of_firsts : (ds : List Distribution) (n : ℕ) (g : Gen Word) (m : Made Word (List Candidate)) → length ds ≤ 16 → All Q ds → W g.word → firsts S ds n g ≡ some m → All P m.out × W m.gen.word
-    pub of_extra : (ds : List Distribution) (g : Gen Word) (m : Made Word Candidate) → length ds ≤ 16 → All Q ds → W g.word → extra S ds g ≡ some m → P m.out × W m.gen.word
+    pub of_firsts : (ds : List Distribution) (n : ℕ) (g : Gen Word) (m : Made Word (List Candidate)) → length ds ≤ 16 → All Q ds → W g.word → firsts S ds n g ≡ Some m → All P m.out × W m.gen.word
+    pub of_extra : (ds : List Distribution) (g : Gen Word) (m : Made Word Candidate) → length ds ≤ 16 → All Q ds → W g.word → extra S ds g ≡ Some m → P m.out × W m.gen.word
     pub of_nexts : (ds : List Distribution) (ps : List (Parent Candidate)) (b : ℕ) (g : Gen Word) (m : Made Word (List Candidate)) → length ds ≤ 16 → All Q ds → All FineParent ps → W g.word
-        → nexts S ds ps b g ≡ some m → All P m.out × W m.gen.word
+        → nexts S ds ps b g ≡ Some m → All P m.out × W m.gen.word
 
   -- ---- the counted results
 
-  scan-fine : (es : List Entry) (n : ℕ) (o : Option Float) → All (λ e. F (value_of e)) es → ((v : Float) → o ≡ some v → F v) → (v : Float) → scan K es n o ≡ some v → F v
+  scan-fine : (es : List Entry) (n : ℕ) (o : Option Float) → All (λ e. F (value_of e)) es → ((v : Float) → o ≡ Some v → F v) → (v : Float) → scan K es n o ≡ Some v → F v
   unfolding scan
   scan-fine [] n o h k v e = k v e
-  scan-fine (x ∷ es) n o h k v e = scan-fine es n (cond (eqb (K.number_of x) n) (some (value_of x)) o) (all_tail h) (go (eqb (K.number_of x) n)) v e
+  scan-fine (x ∷ es) n o h k v e = scan-fine es n (cond (eqb (K.number_of x) n) (Some (value_of x)) o) (all_tail h) (go (eqb (K.number_of x) n)) v e
     where
-      go : (b : Bool) (w : Float) → cond b (some (value_of x)) o ≡ some w → F w
+      go : (b : Bool) (w : Float) → cond b (Some (value_of x)) o ≡ Some w → F w
       go true w d = subst F (some_inj d) (h x (Memᴰ.head refl))
       go false w d = k w d
 
-  results_fine : (h : List Entry) (ns : List ℕ) → All (λ e. F (value_of e)) h → (vs : List Float) → results_of K h ns ≡ some vs → All F vs
+  results_fine : (h : List Entry) (ns : List ℕ) → All (λ e. F (value_of e)) h → (vs : List Float) → results_of K h ns ≡ Some vs → All F vs
   unfolding results_of
   results_fine h [] k vs e = subst (All F) (some_inj e) (all_nil F)
   results_fine h (n ∷ ns) k vs e =
-      let p = bind-some (scan K h n none) _ vs e in
+      let p = bind-some (scan K h n None) _ vs e in
       let q = bind-some (results_of K h ns) _ vs p.2 in
-      subst (All F) (some_inj q.2) (all_cons F p.0 q.0 (scan-fine h n none k (λ v d. absurd (none≢some d)) p.0 p.1) (results_fine h ns k q.0 q.1))
+      subst (All F) (some_inj q.2) (all_cons F p.0 q.0 (scan-fine h n None k (λ v d. absurd (none≢some d)) p.0 p.1) (results_fine h ns k q.0 q.1))
 
-  counted-fine : (n : ℕ) (ns : List ℕ) (h : List Entry) → All (λ e. F (value_of e)) h → (vs : List Float) → counted K n ns h ≡ some vs → All F vs
+  counted-fine : (n : ℕ) (ns : List ℕ) (h : List Entry) → All (λ e. F (value_of e)) h → (vs : List Float) → counted K n ns h ≡ Some vs → All F vs
   unfolding counted
   counted-fine n ns h k vs e = go (leb n (length ns)) e
     where
-      go : (b : Bool) → cond b (results_of K h (take n ns)) none ≡ some vs → All F vs
+      go : (b : Bool) → cond b (results_of K h (take n ns)) None ≡ Some vs → All F vs
       go true d = results_fine h (take n ns) k vs d
       go false d = absurd (none≢some d)
 
@@ -117,12 +116,12 @@ module _ (K : Kernel) (W : K.Word → Type 0) (P : K.Candidate → Type 0) (Q : 
   -- ---- a call
 
   module _ (S : Setup) (M : Makes S) where
-    close-fine : (s : State K) (g : Gen Word) (o : Option (List Float)) (m : Made Word (State K)) → length s.dims ≤ 16 → Fine s → W g.word → ((row : List Float) → o ≡ some row → All F row)
-        → close K S s g o ≡ some m → Fine m.out × W m.gen.word × (length m.out.dims ≤ 16)
+    close-fine : (s : State K) (g : Gen Word) (o : Option (List Float)) (m : Made Word (State K)) → length s.dims ≤ 16 → Fine s → W g.word → ((row : List Float) → o ≡ Some row → All F row)
+        → close K S s g o ≡ Some m → Fine m.out × W m.gen.word × (length m.out.dims ≤ 16)
     unfolding close
-    close-fine s g none m few f w h e =
+    close-fine s g None m few f w h e =
         let q = some_inj e in (subst (λ (x : Made Word (State K)). Fine x.out) q f, subst (λ (x : Made Word (State K)). W x.gen.word) q w, subst (λ (x : Made Word (State K)). length x.out.dims ≤ 16) q few)
-    close-fine s g (some row) m few f w h e =
+    close-fine s g (Some row) m few f w h e =
         let o = settle K s.slots s.candidates row in
         let ps : All FineParent o.parents = parents-fine s.slots.closed s.slots.parents s.candidates row f.parents f.candidates (h row refl) in
         let p = bind-some (nexts S s.dims o.parents o.best g) _ m e in
@@ -146,15 +145,15 @@ module _ (K : Kernel) (W : K.Word → Type 0) (P : K.Candidate → Type 0) (Q : 
         go true = w
         go false = M.of_random c.distribution g w
 
-    assign-fine : (s : State K) (c : Call K) (g : Gen Word) (o : Option Candidate) (a : Accepted K) → length s.dims ≤ 16 → Fine s → FineCall c → W g.word → assign K S s c g o ≡ some a → Fine a.state
+    assign-fine : (s : State K) (c : Call K) (g : Gen Word) (o : Option Candidate) (a : Accepted K) → length s.dims ≤ 16 → Fine s → FineCall c → W g.word → assign K S s c g o ≡ Some a → Fine a.state
     unfolding assign
-    assign-fine s c g (some y) a few f d w e = subst (λ (x : Accepted K). Fine x.state) (some_inj e) (serve-fine s c s.candidates y g f d f.candidates w)
-    assign-fine s c g none a few f d w e =
+    assign-fine s c g (Some y) a few f d w e = subst (λ (x : Accepted K). Fine x.state) (some_inj e) (serve-fine s c s.candidates y g f d f.candidates w)
+    assign-fine s c g None a few f d w e =
         let p = bind-some (extra S s.dims g) _ a e in
         let k = M.of_extra s.dims g p.0 few f.dims w p.1 in
         subst (λ (x : Accepted K). Fine x.state) (some_inj p.2) (serve-fine s c (s.candidates ++ (p.0.out ∷ [])) p.0.out p.0.gen f d (all_snoc P s.candidates p.0.out f.candidates k.0) k.1)
 
-    sampling-fine : (n : ℕ) (s : State K) (c : Call K) (g : Gen Word) (a : Accepted K) → length s.dims ≤ 16 → Fine s → FineCall c → W g.word → sampling K S n s c g ≡ some a → Fine a.state
+    sampling-fine : (n : ℕ) (s : State K) (c : Call K) (g : Gen Word) (a : Accepted K) → length s.dims ≤ 16 → Fine s → FineCall c → W g.word → sampling K S n s c g ≡ Some a → Fine a.state
     unfolding sampling
     sampling-fine n s c g a few f d w e =
         let o = counted K n (numbers s.trials) c.history in
@@ -162,12 +161,12 @@ module _ (K : Kernel) (W : K.Word → Type 0) (P : K.Candidate → Type 0) (Q : 
         let k = close-fine s g o p.0 few f w (λ row q. counted-fine n (numbers s.trials) c.history d.history row q) p.1 in
         assign-fine p.0.out c p.0.gen _ a k.2 k.0 d k.1 p.2
 
-    accept-fine : (s : State K) (c : Call K) (z : Option ℕ) (a : Accepted K) → length s.dims ≤ 16 → Fine s → FineCall c → accept K S z s c ≡ some a → Fine a.state
+    accept-fine : (s : State K) (c : Call K) (z : Option ℕ) (a : Accepted K) → length s.dims ≤ 16 → Fine s → FineCall c → accept K S z s c ≡ Some a → Fine a.state
     unfolding accept discovery
-    accept-fine s c (some n) a few f d e = sampling-fine n s c (start_gen K s) a few f d f.word e
-    accept-fine s c none a few f d e = go (discovers s.first c.number) e
+    accept-fine s c (Some n) a few f d e = sampling-fine n s c (start_gen K s) a few f d f.word e
+    accept-fine s c None a few f d e = go (discovers s.first c.number) e
       where
-        go : (b : Bool) → discovery K S b s c ≡ some a → Fine a.state
+        go : (b : Bool) → discovery K S b s c ≡ Some a → Fine a.state
         go true q =
             subst (λ (x : Accepted K). Fine x.state) (some_inj q)
             (record {
@@ -189,17 +188,9 @@ module _ (K : Kernel) (W : K.Word → Type 0) (P : K.Candidate → Type 0) (Q : 
     step-fine s c few f d = go (or_else (call_refusal K c) (state_refusal K s.size s c)) (accept K S s.size s c) refl
       where
         go : (r : Option ℕ) (o : Option (Accepted K)) → accept K S s.size s c ≡ o → Fine (outcome K s r o).state
-        go (some r) o e = f
-        go none none e = f
-        go none (some a) e = accept-fine s c s.size a few f d e
-
-    pub sample-fine : (s : State K) (c : Call K) → length s.dims ≤ 16 → Fine s → FineCall c → Fine (sample K S s c).state
-    unfolding sample
-    sample-fine s c few f d = go (sound_test K S s)
-      where
-        go : (b : Bool) → Fine (cond b (step K S s c) (refuse K 0 s)).state
-        go true = step-fine s c few f d
-        go false = f
+        go (Some r) o e = f
+        go None None e = f
+        go None (Some a) e = accept-fine s c s.size a few f d e
 
     pub fresh-fine : Fine (fresh K S)
     unfolding fresh

@@ -1,11 +1,11 @@
 -- A sound plain state of the machine's numbers, laid out in the code's arrays, can be saved.
+use Rattle.std.specs.Prelude.{Option, Some, None, is_ok, unwrap_or}
 use Prim.Native.Nat.{ℕ, suc, ◌^◌, ◌≤◌, ◌<◌}
 use native.Mathlib.Omega.{arith}
 use mathlib.Core.Path.{◌≡◌, refl, sym, ap, subst}
 use mathlib.Core.Bool.{Bool, true, false, cond}
 use mathlib.Core.List.Memᴰ
 use mathlib.Core.List.{List, [], ◌∷◌, map, Memᴰ}
-use mathlib.Core.Option.{Option, none, some}
 use borrow.Author.Tests.{ltb-true, eqb-true}
 use lib.Dec.{T, ltb, eqb}
 use lib.Ieee.{Float, binary64}
@@ -36,15 +36,14 @@ use Rattle.kernel.specs.De.{de, member_of}
 use Rattle.kernel.specs.Fits.{entries_fit, choice_limit, choices_fit, fits}
 use Rattle.kernel.proofs.Kernel.{de-laws}
 use Rattle.state.specs.Blank.{blank_dim, blank_trial}
-use Rattle.state.specs.Setup.{setup_verdict, is_valid}
-use Rattle.state.specs.View.{progress_of, first_of, size_number, laid}
+use Rattle.state.specs.Setup.{setup_verdict}
+use Rattle.state.specs.View.{progress_of, size_number, laid}
 use Rattle.state.specs.declared.State.{State}
 use Rattle.state.specs.declared.TrialProgress.{TrialProgress}
 use Rattle.state.proofs.Flags.{true-and}
 use Rattle.state.proofs.Laid.{slots-few, trials-few, candidates-few, parents-few, laid-sound}
 use Rattle.state.proofs.Measured.{Measured}
 use Rattle.records.proofs.Lists.{all-padded, all_of}
-use Rattle.kinds.specs.Rows.{first_word}
 use Rattle.kinds.specs.Typed.{Double, Word, Choices, TypedSetup, TypedCandidate, TypedState, TypedNumbers}
 use Rattle.kinds.proofs.Decoded.{blank-typed}
 use Rattle.kinds.proofs.Typed.{sized_of}
@@ -62,7 +61,7 @@ limit-small (D.Float d) g = omega arith
 limit-small (D.Int d) g = omega arith
 limit-small (D.Categorical d) g = g.few
 
-choices-fit : (ds : List DimensionInfo) (cs : List ℕ) → All (λ (d : DimensionInfo). judged d.distribution ≡ none) ds → choices_fit ds cs ≡ true → All (λ (c : ℕ). c < 2 ^ 16) cs
+choices-fit : (ds : List DimensionInfo) (cs : List ℕ) → All (λ (d : DimensionInfo). judged d.distribution ≡ None) ds → choices_fit ds cs ≡ true → All (λ (c : ℕ). c < 2 ^ 16) cs
 unfolding choices_fit
 choices-fit [] cs h e a m = let q = eqb-true 0 a (all_of (eqb 0) cs e a m) in omega arith
 choices-fit (d ∷ ds) [] h e a m = absurd (Memᴰ.not-nil m)
@@ -72,7 +71,7 @@ choices-fit (d ∷ ds) (c ∷ cs) h e a (Memᴰ.head r) =
     subst (λ (c : ℕ). c < 2 ^ 16) (sym r) (omega arith)
 choices-fit (d ∷ ds) (c ∷ cs) h e a (Memᴰ.tail m) = choices-fit ds cs (λ b t. h b (Memᴰ.tail t)) (true-and (ltb c (choice_limit d)) (choices_fit ds cs) e).1 a m
 
-fits-typed : (ds : List DimensionInfo) (y : Candidate) → All (λ (d : DimensionInfo). judged d.distribution ≡ none) ds → Doubles y → T (fits ds y) → TypedCandidate y
+fits-typed : (ds : List DimensionInfo) (y : Candidate) → All (λ (d : DimensionInfo). judged d.distribution ≡ None) ds → Doubles y → T (fits ds y) → TypedCandidate y
 unfolding fits
 fits-typed ds y h d t =
     record {
@@ -103,29 +102,29 @@ all-mapped P f (x ∷ xs) h a (Memᴰ.tail m) = all-mapped P f xs (λ b t. h b (
 
 -- ---- the state
 
-module _ (S : Setup) (ok : is_valid (setup_verdict S) ≡ true) (typed : TypedSetup S) (m : Plain.State de) (v : Sound de S m) (f : FineState m) where
+module _ (S : Setup) (ok : is_ok (setup_verdict S) ≡ true) (typed : TypedSetup S) (m : Plain.State de) (v : Sound de S m) (f : FineState m) where
   abbrev s : State
   s = laid S m
 
   typed-candidates : (z : Option ℕ) → m.size ≡ z → All TypedCandidate m.candidates
-  typed-candidates none e y t = absurd (Memᴰ.not-nil (subst (Memᴰ y) (v.before e).no_candidates t))
-  typed-candidates (some N) e y t = fits-typed m.dims y v.dims_pass (f.candidates y t) ((v.after N e).fit y t)
+  typed-candidates None e y t = absurd (Memᴰ.not-nil (subst (Memᴰ y) (v.before e).no_candidates t))
+  typed-candidates (Some N) e y t = fits-typed m.dims y v.dims_pass (f.candidates y t) ((v.after N e).fit y t)
 
   abbrev TypedMember : Member → Type 0
   TypedMember p = TypedCandidate p.candidate × Double p.value
 
   typed-parents : (z : Option ℕ) → m.size ≡ z → All (λ (p : Parent Candidate). TypedCandidate p.candidate × Double p.value) m.slots.parents
-  typed-parents none e p t = absurd (Memᴰ.not-nil (subst (Memᴰ p) (ap (λ (o : Plain.Slots de). o.parents) (v.before e).no_slots) t))
-  typed-parents (some N) e p t = let d = f.parents p t in (fits-typed m.dims p.candidate v.dims_pass d.0 ((v.after N e).parents_fit p t), d.1)
+  typed-parents None e p t = absurd (Memᴰ.not-nil (subst (Memᴰ p) (ap (λ (o : Plain.Slots de). o.parents) (v.before e).no_slots) t))
+  typed-parents (Some N) e p t = let d = f.parents p t in (fits-typed m.dims p.candidate v.dims_pass d.0 ((v.after N e).parents_fit p t), d.1)
 
   counters : (z : Option ℕ) → m.size ≡ z → (m.slots.closed ≤ cap) × (m.slots.idle ≤ cap) × (m.slots.best ≤ 160)
-  counters none e =
+  counters None e =
       let q = (v.before e).no_slots in
       let a : m.slots.closed ≡ 0 = ap (λ (o : Plain.Slots de). o.closed) q in
       let b : m.slots.idle ≡ 0 = ap (λ (o : Plain.Slots de). o.idle) q in
       let c : m.slots.best ≡ 0 = ap (λ (o : Plain.Slots de). o.best) q in
       (omega arith, omega arith, omega arith)
-  counters (some N) e =
+  counters (Some N) e =
       let w = v.after N e in
       let a = w.capped in
       let b = w.idle in
@@ -178,17 +177,17 @@ module _ (S : Setup) (ok : is_valid (setup_verdict S) ≡ true) (typed : TypedSe
         parents = all-parents;
       }
 
-  first_small : (o : Option ℕ) → m.first ≡ o → first_word (first_of o) < 2 ^ 64
-  first_small none e = omega arith
-  first_small (some n) e = f.first n e
+  first_small : (o : Option ℕ) → m.first ≡ o → unwrap_or o 0 < 2 ^ 64
+  first_small None e = omega arith
+  first_small (Some n) e = f.first n e
 
   size_small : (z : Option ℕ) → m.size ≡ z → size_number z < 2 ^ 64
-  size_small none e = omega arith
-  size_small (some N) e = let h = slots-few S m v ok N e in omega arith
+  size_small None e = omega arith
+  size_small (Some N) e = let h = slots-few S m v ok N e in omega arith
 
   next-few : (z : Option ℕ) → m.size ≡ z → All (λ (t : Plain.Trial). t.next ≤ 16) m.trials
-  next-few none e t k = absurd (Memᴰ.not-nil (subst (Memᴰ t) (v.before e).no_trials k))
-  next-few (some N) e t k = let a = (v.after N e).places t k in let b = v.dims_few in omega arith
+  next-few None e t k = absurd (Memᴰ.not-nil (subst (Memᴰ t) (v.before e).no_trials k))
+  next-few (Some N) e t k = let a = (v.after N e).places t k in let b = v.dims_few in omega arith
 
   abbrev TypedTrial : TrialProgress → Type 0
   TypedTrial t = (t.number < 2 ^ 64) × (t.next_dim < 2 ^ 64)

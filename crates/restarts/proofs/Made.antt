@@ -1,11 +1,11 @@
 -- The sampler's candidates are of doubles and its generator's words of 64 bits: every entry is a sum of doubles, a bound or a parent's entry.
+use Rattle.std.specs.Prelude.{Some}
 use Prim.Native.Nat.{ℕ, zero, suc, ◌+◌, ◌≤◌}
 use native.Mathlib.Omega.{arith}
 use mathlib.Core.Path.{◌≡◌, refl, subst}
 use mathlib.Core.Bool.{Bool, true, false, cond}
 use mathlib.Core.List.Memᴰ
 use mathlib.Core.List.{List, [], ◌∷◌, map}
-use mathlib.Core.Option.{some}
 use lib.Dec.{eqb}
 use lib.Ieee.{Float, nan, binary64, add, sub, mul, lt}
 use lib.Ieee.Bits.{of_bits-fits}
@@ -31,7 +31,7 @@ use Rattle.ledger.proofs.Lists.{none≢some, some_inj, all_nil}
 use Rattle.candidates.specs.Candidate.{packed}
 use Rattle.candidates.specs.Nan.{any_nan, any_bad}
 use Rattle.candidates.specs.Random.{random_entry, nan_bounds, entry_at, random_entries, random_choice, choice_at, random_choices, random_candidate, candidate_at, random_candidates}
-use Rattle.candidates.specs.Space.{continuous_dims, continuous_bounds, spans_of, space_of}
+use Rattle.candidates.specs.Space.{continuous_dims, continuous_bounds, space_of}
 use Rattle.candidates.specs.declared.Candidate.{Candidate}
 use Rattle.candidates.specs.declared.Space.{Space}
 use Rattle.candidates.proofs.Passed.{few-continuous}
@@ -69,7 +69,7 @@ choice-word : (k : ℕ) (g : Gen) → Word g.word → Word (random_choice k g).a
 unfolding random_choice
 choice-word k g w = go (eqb k 0)
   where
-    go : (b : Bool) → Word (cond {A = Made ℕ} b (record { out = 0; after = g }) (record { out = usize_of (draw_of g).output k; after = (draw_of g).after })).after.word
+    go : (b : Bool) → Word (cond {A = Made ℕ} b (record { out = 0; after = g }) (record { out = usize_of (draw_of g).out k; after = (draw_of g).after })).after.word
     go true = w
     go false = after-draw g
 
@@ -92,10 +92,10 @@ candidates-word s N g w = many-word (candidate_at s) (λ j. candidate-word s) N 
 select_word : (N : ℕ) (ts : List ℕ) (k : ℕ) (g : Gen) → Word g.word → Word (select_from N ts k g).after.word
 unfolding select_from
 select_word N ts zero g w = w
-select_word N ts (suc k) g w = go (is_free ts (usize_of (draw_of g).output N)) (select_word N ts k (draw_of g).after (after-draw g))
+select_word N ts (suc k) g w = go (is_free ts (usize_of (draw_of g).out N)) (select_word N ts k (draw_of g).after (after-draw g))
   where
     go : (b : Bool) → Word (select_from N ts k (draw_of g).after).after.word
-        → Word (cond b (record { out = usize_of (draw_of g).output N; after = (draw_of g).after }) (select_from N ts k (draw_of g).after)).after.word
+        → Word (cond b (record { out = usize_of (draw_of g).out N; after = (draw_of g).after }) (select_from N ts k (draw_of g).after)).after.word
     go true h = after-draw g
     go false h = h
 
@@ -114,7 +114,7 @@ cross-word : (CR : Float) (star : ℕ) (v x : Float) (b : Bounds) (j : ℕ) (g :
 unfolding cross_entry
 cross-word CR star v x b j g w = go (eqb j star)
   where
-    go : (t : Bool) → Word (cond {A = Made Float} t (record { out = judged_entry b v; after = g }) (record { out = judged_entry b (cond (lt (unit_of (draw_of g).output) CR) v x); after = (draw_of g).after })).after.word
+    go : (t : Bool) → Word (cond {A = Made Float} t (record { out = judged_entry b v; after = g }) (record { out = judged_entry b (cond (lt (unit_of (draw_of g).out) CR) v x); after = (draw_of g).after })).after.word
     go true = w
     go false = after-draw g
 
@@ -127,7 +127,7 @@ unfolding trial_of
 trial-word S x N best s i g =
     let t = indices_for S N i g in
     let d = draw_of t.after in
-    choices-word s _ (crossed-word S.crossover_rate (usize_of d.output s.n) (mutant_at S x best i t) (x i) s d.after (after-draw t.after))
+    choices-word s _ (crossed-word S.crossover_rate (usize_of d.out s.n) (mutant_at S x best i t.out) (x i) s d.after (after-draw t.after))
 
 nexts-word : (S : Setup) (ps : List Member) (best : ℕ) (s : Space) (g : Gen) → Word g.word → Word (next_candidates S ps best s g).after.word
 unfolding next_candidates trial_vectors
@@ -185,14 +185,14 @@ module _ (ds : List DimensionInfo) (few : length ds ≤ 16) (h : All TypedDim ds
       go false r = r
 
   bounds-at : (j : ℕ) → DoubleBounds (get_or (space_of ds).bounds j nan_bounds)
-  unfolding space_of spans_of
+  unfolding space_of
   bounds-at j = all-at DoubleBounds (pad_to 16 no_bounds (continuous_bounds ds)) j nan_bounds (all-padded DoubleBounds 16 no_bounds (continuous_bounds ds) (all-bounds ds h) (of_bits-fits binary64 0, of_bits-fits binary64 0)) (nan-fits binary64, nan-fits binary64)
 
   abbrev s : Space
   s = space_of ds
 
   n-few : s.n ≤ 16
-  unfolding space_of spans_of
+  unfolding space_of
   n-few = omega (arith, few-continuous ds)
 
   d-few : s.n_dims ≤ 16
@@ -225,7 +225,7 @@ module _ (ds : List DimensionInfo) (few : length ds ≤ 16) (h : All TypedDim ds
 
   cross-double : (CR : Float) (star : ℕ) (v x : Float) (b : Bounds) (j : ℕ) (g : Gen) → Double v → Double x → DoubleBounds b → Double (cross_entry CR star v x b j g).out
   unfolding cross_entry
-  cross-double CR star v x b j g p q r = go (eqb j star) (lt (unit_of (draw_of g).output) CR)
+  cross-double CR star v x b j g p q r = go (eqb j star) (lt (unit_of (draw_of g).out) CR)
     where
       go : (t u : Bool) → Double (cond {A = Made Float} t (record { out = judged_entry b v; after = g }) (record { out = judged_entry b (cond u v x); after = (draw_of g).after })).out
       go true u = clamp-double v b.low b.high p r.0 r.1
@@ -238,10 +238,10 @@ module _ (ds : List DimensionInfo) (few : length ds ≤ 16) (h : All TypedDim ds
     trial-doubles i g =
         let t = indices_for S N i g in
         let d = draw_of t.after in
-        let make = cross_at S.crossover_rate (usize_of d.output s.n) (mutant_at S x best i t) (x i) s in
+        let make = cross_at S.crossover_rate (usize_of d.out s.n) (mutant_at S x best i t.out) (x i) s in
         packed-doubles (many make s.n 0 d.after).out (many make s.n 0 d.after).after (omega (arith, many-length make s.n 0 d.after, n-few))
         (all_made Double make s.n
-        (λ j l e. cross-double S.crossover_rate (usize_of d.output s.n) (mutant_at S x best i t j) (x i j) (get_or s.bounds j nan_bounds) j e (mutant-double S.strategy _ _ _ _ _ _) (xs i j) (bounds-at j))
+        (λ j l e. cross-double S.crossover_rate (usize_of d.out s.n) (mutant_at S x best i t.out j) (x i j) (get_or s.bounds j nan_bounds) j e (mutant-double S.strategy _ _ _ _ _ _) (xs i j) (bounds-at j))
         s.n 0 d.after (omega arith))
 
   entries-double : (ps : List Member) → All (λ (m : Member). Doubles m.candidate) ps → (i j : ℕ) → Double (entries ps i j)
@@ -258,7 +258,7 @@ module _ (ds : List DimensionInfo) (few : length ds ≤ 16) (h : All TypedDim ds
 
 -- ---- the kernel
 
-handed-over : {A : Type 0} (P : L.Made ℕ A → Type 0) (bad : Bool) (m : Made A) (r : L.Made ℕ A) → unless_nan bad m ≡ some r → P (made m) → P r
+handed-over : {A : Type 0} (P : L.Made ℕ A → Type 0) (bad : Bool) (m : Made A) (r : L.Made ℕ A) → unless_nan bad m ≡ Some r → P (made m) → P r
 handed-over P true m r e h = absurd (none≢some e)
 handed-over P false m r e h = subst P (some_inj e) h
 

@@ -1,11 +1,10 @@
 -- ONE LIST, for whatever keeps a state and is called, with every writer and reader: a campaign with saves and reboots is the campaign of its surviving calls, so what is
 -- said of a list of calls, the share and the least result among it, is said of it. The idea: what the gateway holds and which calls count go along, event by event (`Agree`).
+use Rattle.std.specs.Prelude.{Option, Some, None, unwrap_or, slice_get}
 use Prim.Native.Nat.{ℕ, zero, suc}
 use mathlib.Core.List.Memᴰ
 use mathlib.Core.List.{List, [], ◌∷◌, ◌++◌}
 use mathlib.Core.Path.{◌≡◌, refl, sym, ap, ◌∙◌, subst}
-use mathlib.Core.Option.{Option, none, some, get_or}
-use lib.ListN.{get_elem?}
 use Rattle.ledger.specs.Words.{All, ◌>>=◌}
 use Rattle.ledger.specs.Call as Ledger
 use Rattle.ledger.specs.Claim.{Claim, Demand3, Point, moment, after, start, moments_from, end_from}
@@ -40,7 +39,7 @@ module _ (Kept Call : Type 0) where
 
     -- a file of the state that calls lead to, whatever stands in the state's place when it is read
     abbrev FileOf : List ℕ → List Call → Type 0
-    FileOf f cs = All GoodCall cs × ((left : Kept) → read left f ≡ some (led cs))
+    FileOf f cs = All GoodCall cs × ((left : Kept) → read left f ≡ Some (led cs))
 
     -- the files are those of the saved lists, one by one
     abbrev Match : List (List ℕ) → List (List Call) → Type 0
@@ -57,12 +56,12 @@ module _ (Kept Call : Type 0) where
 
     -- what a reboot finds at a place
     abbrev Found : Option (List ℕ) → Option (List Call) → Type 0
-    Found none none = Unit {0}
-    Found none (some cs) = ⊥
-    Found (some f) none = ⊥
-    Found (some f) (some cs) = FileOf f cs
+    Found None None = Unit {0}
+    Found None (Some cs) = ⊥
+    Found (Some f) None = ⊥
+    Found (Some f) (Some cs) = FileOf f cs
 
-    match-at : (fs : List (List ℕ)) (css : List (List Call)) (n : ℕ) → Match fs css → Found (get_elem? fs n) (get_elem? css n)
+    match-at : (fs : List (List ℕ)) (css : List (List Call)) (n : ℕ) → Match fs css → Found (slice_get fs n) (slice_get css n)
     match-at [] [] n m = tt
     match-at [] (x ∷ css) n m = absurd m
     match-at (x ∷ fs) [] n m = absurd m
@@ -72,7 +71,7 @@ module _ (Kept Call : Type 0) where
     -- the set-up made anew is the first one, and each state that good calls lead to is written, and read back
     module _
         (same : (left : Kept) → anew left ≡ s)
-        (back : (cs : List Call) → All GoodCall cs → (lent : List ℕ) → Good (save lent) → (file : List ℕ) × (write (led cs) lent ≡ some file) × ((left : Kept) → read left file ≡ some (led cs)))
+        (back : (cs : List Call) → All GoodCall cs → (lent : List ℕ) → Good (save lent) → (file : List ℕ) × (write (led cs) lent ≡ Some file) × ((left : Kept) → read left file ≡ Some (led cs)))
       where
         record Agree (k : Counted Kept Call) (h : OnGateway Kept Call) : Type 0 where
           pub calls : All GoodCall k.calls
@@ -85,12 +84,12 @@ module _ (Kept Call : Type 0) where
             let b = back cs g lent w in
             subst (λ (o : Option (List ℕ)). Match (more fs o) (css ++ (cs ∷ []))) (sym (ap (λ (y : Kept). write y lent) e ∙ b.1)) (match-more fs css b.0 cs m (g, b.2))
 
-        rebooted : (left : Kept) (o : Option (List ℕ)) (p : Option (List Call)) → Found o p → (get_or (o >>= read left) (anew left) ≡ led (get_or p [])) × All GoodCall (get_or p [])
+        rebooted : (left : Kept) (o : Option (List ℕ)) (p : Option (List Call)) → Found o p → (unwrap_or (o >>= read left) (anew left) ≡ led (unwrap_or p [])) × All GoodCall (unwrap_or p [])
         unfolding led_to
-        rebooted left none none a = (same left, all_nil GoodCall)
-        rebooted left none (some cs) a = absurd a
-        rebooted left (some f) none a = absurd a
-        rebooted left (some f) (some cs) a = (ap (λ (r : Option Kept). get_or r (anew left)) (a.1 left), a.0)
+        rebooted left None None a = (same left, all_nil GoodCall)
+        rebooted left None (Some cs) a = absurd a
+        rebooted left (Some f) None a = absurd a
+        rebooted left (Some f) (Some cs) a = (ap (λ (r : Option Kept). unwrap_or r (anew left)) (a.1 left), a.0)
 
         agree : (es : List (Event Kept Call)) (k : Counted Kept Call) (h : OnGateway Kept Call) → All Good es → Agree k h → Agree (counted_after Kept Call k es) (held_after Kept Call step anew write read h es)
         unfolding counted_after held_after
@@ -108,7 +107,7 @@ module _ (Kept Call : Type 0) where
               files = new-file h.state k.calls a.calls a.state lent (g (save lent) (Memᴰ.head refl)) h.files k.saved a.files;
             })
         agree (reboot n left ∷ es) k h g a =
-            let r = rebooted left (get_elem? h.files n) (get_elem? k.saved n) (match-at h.files k.saved n a.files) in
+            let r = rebooted left (slice_get h.files n) (slice_get k.saved n) (match-at h.files k.saved n a.files) in
             agree es _ _ (λ x m. g x (Memᴰ.tail m)) (record { calls = r.1; state = r.0; files = a.files })
 
         -- THE LAW: the state after any events is the state that the surviving calls lead to

@@ -1,6 +1,5 @@
 -- The code's writer and reader as a gateway uses them, and the calls that it can make.
-use Rattle.std.specs.Prelude.{ℕ, ◌≤◌, List, length, take}
-use Rattle.std.proofs.Math.Option.{Option, none, some}
+use Rattle.std.specs.Prelude.{ℕ, ◌≤◌, List, length, take, Option, Some, None, Result, Ok, Err, ⊤}
 use Rattle.history.specs.declared.CompletedTrial.{CompletedTrial}
 use Rattle.ledger.specs.Words.{All}
 use Rattle.ledger.specs.Call.{Call}
@@ -12,24 +11,21 @@ use Rattle.de.specs.Program.{ran}
 use Rattle.kinds.specs.Typed.{Double, Word, TypedDistribution}
 use Rattle.saved.specs.Save.{save_of, saved_in}
 use Rattle.saved.specs.Restore.{restore_of}
-use Rattle.saved.specs.declared.SaveAnswer.{SaveAnswer}
-use Rattle.saved.specs.declared.SaveAnswer.TheVariants as S
-use Rattle.saved.specs.declared.RestoreAnswer.{RestoreAnswer}
-use Rattle.saved.specs.declared.RestoreAnswer.TheVariants as R
 use Rattle.restarts.specs.Restart.{Event, call, save, reboot, state_after}
+use Rattle.saved.specs.declared.FileRefusal.{FileRefusal}
 
 -- "It reports the file's length": what is kept of a save is as many of the lent file's first bytes
-abbrev pub kept_by : SaveAnswer → List ℕ → Option (List ℕ)
-kept_by (S.Length n) f = some (take n f)
-kept_by (S.Refused r) f = none
+abbrev pub kept_by : Result ℕ FileRefusal → List ℕ → Option (List ℕ)
+kept_by (Ok n) f = Some (take n f)
+kept_by (Err r) f = None
 
 -- lent is the memory that the gateway lends to `save`
 abbrev pub saved_file : State → List ℕ → Option (List ℕ)
 saved_file s lent = kept_by (save_of s (length lent)) (saved_in s lent)
 
-abbrev pub if_taken : RestoreAnswer → State → Option State
-if_taken R.Taken s = some s
-if_taken (R.Refused r) s = none
+abbrev pub if_taken : Result ⊤ FileRefusal → State → Option State
+if_taken (Ok tt) s = Some s
+if_taken (Err r) s = None
 
 -- the state that `restore` hands back, old being the one that it is called with
 abbrev pub restored_from : State → List ℕ → Option State

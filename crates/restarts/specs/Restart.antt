@@ -1,14 +1,12 @@
 -- "A list of calls that passes through a save and its own restore counts as one list, for share and for least result alike; calls made between the two are lost
 -- with the reboot and are not of it." What happens to a gateway, which of its calls count, and what it then holds; of whatever keeps a state and is called.
-use Rattle.std.specs.Prelude.{ℕ, List, [], ◌∷◌, ◌++◌}
-use Rattle.std.proofs.Math.Option.{Option, none, some, get_or}
-use Rattle.std.proofs.Math.ListN.{get_elem?}
+use Rattle.std.specs.Prelude.{ℕ, List, [], ◌∷◌, ◌++◌, Option, Some, None, unwrap_or, slice_get}
 use Rattle.ledger.specs.Words.{◌>>=◌}
 
 -- one more, if there is one
 abbrev pub more : {A : Type 0} → List A → Option A → List A
-more xs none = xs
-more xs (some x) = xs ++ (x ∷ [])
+more xs None = xs
+more xs (Some x) = xs ++ (x ∷ [])
 
 -- the states that are kept, and the calls
 module _ (Kept Call : Type 0) where
@@ -29,7 +27,7 @@ module _ (Kept Call : Type 0) where
   counted_after k [] = k
   counted_after k (call c ∷ es) = counted_after (record { calls = k.calls ++ (c ∷ []); saved = k.saved }) es
   counted_after k (save lent ∷ es) = counted_after (record { calls = k.calls; saved = k.saved ++ (k.calls ∷ []) }) es
-  counted_after k (reboot n left ∷ es) = counted_after (record { calls = get_or (get_elem? k.saved n) []; saved = k.saved }) es
+  counted_after k (reboot n left ∷ es) = counted_after (record { calls = unwrap_or (slice_get k.saved n) []; saved = k.saved }) es
 
   -- "calls made between the two are lost"
   abbrev pub surviving : List Event → List Call
@@ -53,7 +51,7 @@ module _ (Kept Call : Type 0) where
     held_after h [] = h
     held_after h (call c ∷ es) = held_after (record { state = step h.state c; files = h.files }) es
     held_after h (save lent ∷ es) = held_after (record { state = h.state; files = more h.files (write h.state lent) }) es
-    held_after h (reboot n left ∷ es) = held_after (record { state = get_or (get_elem? h.files n >>= read left) (anew left); files = h.files }) es
+    held_after h (reboot n left ∷ es) = held_after (record { state = unwrap_or (slice_get h.files n >>= read left) (anew left); files = h.files }) es
 
     -- from a state on, with no file yet
     abbrev pub state_after : Kept → List Event → Kept
