@@ -1,22 +1,14 @@
 -- The state in numbers, opened and flattened. What a number that names no case opens to is never used (`Known`).
-use Rattle.std.specs.Prelude.{ℕ, Bool, true, false, cond, List, map, eqb, Float, ℤ, pos}
+use Rattle.std.specs.Prelude.{ℕ, Bool, true, false, cond, List, map, eqb, Float, ℤ, pos, Option, Some, None}
 use Rattle.common.specs.Bounds.{zero_f}
 use Rattle.distribution.specs.declared.DimensionInfo.{DimensionInfo}
 use Rattle.distribution.specs.declared.Distribution.{Distribution}
 use Rattle.distribution.specs.declared.Distribution.TheVariants as D
 use Rattle.distribution.specs.declared.FloatDistribution.{FloatDistribution}
-use Rattle.distribution.specs.declared.FloatStep.{FloatStep}
-use Rattle.distribution.specs.declared.FloatStep.TheVariants as FS
 use Rattle.distribution.specs.declared.IntDistribution.{IntDistribution}
-use Rattle.distribution.specs.declared.IntStep.{IntStep}
-use Rattle.distribution.specs.declared.IntStep.TheVariants as IS
 use Rattle.evolution.specs.declared.DEStrategy.{DEStrategy}
 use Rattle.evolution.specs.declared.DEStrategy.TheVariants.{Rand1, Best1, CurrentToBest1}
-use Rattle.evolution.specs.declared.PopulationSize.{PopulationSize}
-use Rattle.evolution.specs.declared.PopulationSize.TheVariants.{Unset, Of}
 use Rattle.evolution.specs.declared.Setup.{Setup}
-use Rattle.state.specs.declared.FirstTrial.{FirstTrial}
-use Rattle.state.specs.declared.FirstTrial.TheVariants.{Unnamed, Named}
 use Rattle.state.specs.declared.State.{State}
 use Rattle.edge.specs.declared.flat.DeSetup.{DeSetup}
 use Rattle.edge.specs.declared.flat.DeDistribution.{DeDistribution}
@@ -29,8 +21,8 @@ abbrev pub strategy_of : ℕ → DEStrategy
 strategy_of k = cond (eqb k 0) Rand1 (cond (eqb k 1) Best1 CurrentToBest1)
 
 -- 0 unset, 1 set
-abbrev pub size_of : ℕ → ℕ → PopulationSize
-size_of sized n = cond (eqb sized 0) Unset (Of n)
+abbrev pub size_of : ℕ → ℕ → Option ℕ
+size_of sized n = cond (eqb sized 0) None (Some n)
 
 unfoldable pub setup_of : DeSetup → Setup
 setup_of s =
@@ -43,11 +35,11 @@ setup_of s =
     }
 
 -- 0 no step, 1 a step
-abbrev pub float_step_of : ℕ → Float → FloatStep
-float_step_of stepped x = cond (eqb stepped 0) FS.Unset (FS.By x)
+abbrev pub float_step_of : ℕ → Float → Option Float
+float_step_of stepped x = cond (eqb stepped 0) None (Some x)
 
-abbrev pub int_step_of : ℕ → ℤ → IntStep
-int_step_of stepped x = cond (eqb stepped 0) IS.Unset (IS.By x)
+abbrev pub int_step_of : ℕ → ℤ → Option ℤ
+int_step_of stepped x = cond (eqb stepped 0) None (Some x)
 
 abbrev pub float_of : DeDistribution → FloatDistribution
 float_of d = record { low = d.low; high = d.high; log_scale = eqb d.log_scale 1; step = float_step_of d.stepped d.step }
@@ -63,8 +55,8 @@ abbrev pub dim_of : DeDistribution → DimensionInfo
 dim_of d = record { distribution = distribution_of d }
 
 -- 0 no first trial yet, 1 its number
-abbrev pub first_of : ℕ → ℕ → FirstTrial
-first_of named n = cond (eqb named 0) Unnamed (Named n)
+abbrev pub first_of : ℕ → ℕ → Option ℕ
+first_of named n = cond (eqb named 0) None (Some n)
 
 -- the state, with its dimensions
 unfoldable pub open_with : DeState → List DimensionInfo → State
@@ -100,13 +92,13 @@ flat_strategy Rand1 = 0
 flat_strategy Best1 = 1
 flat_strategy CurrentToBest1 = 2
 
-abbrev pub flat_sized : PopulationSize → ℕ
-flat_sized Unset = 0
-flat_sized (Of n) = 1
+abbrev pub flat_sized : Option ℕ → ℕ
+flat_sized None = 0
+flat_sized (Some n) = 1
 
-abbrev pub flat_size : PopulationSize → ℕ
-flat_size Unset = 0
-flat_size (Of n) = n
+abbrev pub flat_size : Option ℕ → ℕ
+flat_size None = 0
+flat_size (Some n) = n
 
 unfoldable pub flat_setup : Setup → DeSetup
 flat_setup S =
@@ -124,16 +116,16 @@ abbrev flat : ℕ → Float → Float → ℤ → ℤ → ℕ → ℕ → Float 
 flat k a b i j l s x y n =
     record { kind = k; low = a; high = b; whole_low = i; whole_high = j; log_scale = l; stepped = s; step = x; whole_step = y; n_choices = n }
 
-abbrev pub float_by : FloatDistribution → FloatStep → DeDistribution
-float_by d FS.Unset = flat 1 d.low d.high (pos 0) (pos 0) (bit d.log_scale) 0 zero_f (pos 0) 0
-float_by d (FS.By x) = flat 1 d.low d.high (pos 0) (pos 0) (bit d.log_scale) 1 x (pos 0) 0
+abbrev pub float_by : FloatDistribution → Option Float → DeDistribution
+float_by d None = flat 1 d.low d.high (pos 0) (pos 0) (bit d.log_scale) 0 zero_f (pos 0) 0
+float_by d (Some x) = flat 1 d.low d.high (pos 0) (pos 0) (bit d.log_scale) 1 x (pos 0) 0
 
 abbrev pub flat_float : FloatDistribution → DeDistribution
 flat_float d = float_by d d.step
 
-abbrev pub int_by : IntDistribution → IntStep → DeDistribution
-int_by d IS.Unset = flat 2 zero_f zero_f d.low d.high (bit d.log_scale) 0 zero_f (pos 0) 0
-int_by d (IS.By x) = flat 2 zero_f zero_f d.low d.high (bit d.log_scale) 1 zero_f x 0
+abbrev pub int_by : IntDistribution → Option ℤ → DeDistribution
+int_by d None = flat 2 zero_f zero_f d.low d.high (bit d.log_scale) 0 zero_f (pos 0) 0
+int_by d (Some x) = flat 2 zero_f zero_f d.low d.high (bit d.log_scale) 1 zero_f x 0
 
 abbrev pub flat_int : IntDistribution → DeDistribution
 flat_int d = int_by d d.step
@@ -149,13 +141,13 @@ flat_distribution (D.Categorical d) = flat_choice d.n_choices
 abbrev pub flat_dim : DimensionInfo → DeDistribution
 flat_dim d = flat_distribution d.distribution
 
-abbrev pub flat_named : FirstTrial → ℕ
-flat_named Unnamed = 0
-flat_named (Named n) = 1
+abbrev pub flat_named : Option ℕ → ℕ
+flat_named None = 0
+flat_named (Some n) = 1
 
-abbrev pub flat_first : FirstTrial → ℕ
-flat_first Unnamed = 0
-flat_first (Named n) = n
+abbrev pub flat_first : Option ℕ → ℕ
+flat_first None = 0
+flat_first (Some n) = n
 
 unfoldable pub flat_of : State → DeState
 flat_of s =

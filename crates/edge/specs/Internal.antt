@@ -1,9 +1,7 @@
 -- `to_internal` in numbers.
-use Rattle.std.specs.Prelude.{Bool, ◌&&◌, cond, eqb, leb}
+use Rattle.std.specs.Prelude.{Bool, ◌&&◌, cond, eqb, leb, Result, Ok, Err, Float}
 use Rattle.common.specs.Bounds.{zero_f}
 use Rattle.common.specs.ToInternal.{to_internal}
-use Rattle.common.specs.declared.Internal.{Internal}
-use Rattle.common.specs.declared.Internal.TheVariants.{Value, Refused}
 use Rattle.distribution.specs.Refusals.{refusal_number}
 use Rattle.distribution.specs.declared.ParamValue.{ParamValue}
 use Rattle.distribution.specs.declared.ParamValue.TheVariants as P
@@ -12,6 +10,7 @@ use Rattle.edge.specs.declared.internal.DeSetting.{DeSetting}
 use Rattle.edge.specs.declared.internal.DeInternal.{DeInternal}
 use Rattle.edge.specs.Flat.{distribution_of}
 use Rattle.edge.specs.Known.{known_distribution}
+use Rattle.distribution.specs.declared.Refusal.{Refusal}
 
 -- 1 float, 2 int, 3 choice
 unfoldable pub known_setting : DeSetting → Bool
@@ -20,9 +19,9 @@ known_setting s = leb 1 s.kind && leb s.kind 3
 unfoldable pub setting_of : DeSetting → ParamValue
 setting_of s = cond (eqb s.kind 1) (P.Float s.real) (cond (eqb s.kind 2) (P.Int s.whole) (P.Categorical s.choice))
 
-abbrev pub flat_internal : Internal → DeInternal
-flat_internal (Value x) = record { kind = 1; refusal = 0; value = x }
-flat_internal (Refused r) = record { kind = 0; refusal = refusal_number r; value = zero_f }
+abbrev pub flat_internal : Result Float Refusal → DeInternal
+flat_internal (Ok x) = record { kind = 1; refusal = 0; value = x }
+flat_internal (Err r) = record { kind = 0; refusal = refusal_number r; value = zero_f }
 
 -- kind 4: a number names no case
 unfoldable pub internal_of : DeDistribution → DeSetting → DeInternal

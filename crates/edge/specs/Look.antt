@@ -1,22 +1,21 @@
 -- The look call in numbers.
-use Rattle.std.specs.Prelude.{cond, replicate}
+use Rattle.std.specs.Prelude.{cond, replicate, Option, Some, None, Result, Ok, Err, ℕ}
 use Rattle.common.specs.Bounds.{zero_f}
 use Rattle.distribution.specs.Refusals.{refusal_number}
 use Rattle.slots.specs.Look.{look_of}
-use Rattle.slots.specs.declared.LookAnswer.{LookAnswer}
-use Rattle.slots.specs.declared.LookAnswer.TheVariants.{Refused, Nothing, Best}
 use Rattle.slots.specs.declared.Looked.{Looked}
 use Rattle.edge.specs.declared.flat.DeState.{DeState}
 use Rattle.edge.specs.declared.look.DeLook.{DeLook}
 use Rattle.edge.specs.declared.look.Head.{Head}
 use Rattle.edge.specs.Flat.{open_of}
 use Rattle.edge.specs.Known.{known_state}
+use Rattle.distribution.specs.declared.Refusal.{Refusal}
 
 -- 0 refused, 1 nothing yet, 2 best
-abbrev pub head_of : LookAnswer → Head
-head_of (Refused r) = record { kind = 0; refusal = refusal_number r; best = 0 }
-head_of Nothing = record { kind = 1; refusal = 0; best = 0 }
-head_of (Best b) = record { kind = 2; refusal = 0; best = b }
+abbrev pub head_of : Result (Option ℕ) Refusal → Head
+head_of (Err r) = record { kind = 0; refusal = refusal_number r; best = 0 }
+head_of (Ok None) = record { kind = 1; refusal = 0; best = 0 }
+head_of (Ok (Some b)) = record { kind = 2; refusal = 0; best = b }
 
 unfoldable pub looked : Looked → DeLook
 looked o =

@@ -6,7 +6,6 @@ ghost use Rattle.edge.specs.Answers.{bare_answer, setting_answer, settled_of, qu
 
 use crate::flat::{DeDistribution, DeState, open, open_dims, open_distribution};
 use crate::known::{known_dims, known_distribution, known_state};
-use de::Answer;
 use distribution::{Distribution, ParamValue, Refusal};
 use state::State;
 
@@ -126,7 +125,12 @@ pub fn open_call(s: DeState, call: DeCall) -> Question
 }
 
 // The answer that goes out. Only a setting stores the state after it.
-pub fn settle(known_call: bool, known_state: bool, answer: Answer, draws: u64) -> Settled
+pub fn settle(
+    known_call: bool,
+    known_state: bool,
+    answer: Result<ParamValue, Refusal>,
+    draws: u64,
+) -> Settled
     ensures { result ≡ settled_of known_call known_state (plain_answer answer) draws }
 {
     if !known_call {
@@ -144,14 +148,14 @@ pub fn settle(known_call: bool, known_state: bool, answer: Answer, draws: u64) -
         };
     }
     match answer {
-        Answer::Setting(x) => {
+        Ok(x) => {
             let a = setting_answer(x, draws);
             Settled {
                 stores: true,
                 answer: a,
             }
         }
-        Answer::Refused(r) => {
+        Err(r) => {
             let a = bare_answer(0, refusal_number(r));
             Settled {
                 stores: false,

@@ -6,23 +6,25 @@ use crate::answers::{Settled, bare_answer, refusal_number};
 use crate::flat::{DeSetup, DeState, open_setup};
 use crate::flatten::{flatten_choice, flatten_setup};
 use crate::known::known_setup;
-use candidates::blank_candidate;
-use de::build::{Built, DESamplerBuilder};
+use candidates::Candidate;
+use de::build::DESamplerBuilder;
+use distribution::Refusal;
+use evolution::Setup;
 use selection::blank_member;
 use state::TrialProgress;
 
-fn settle_built(built: Built) -> Settled
+fn settle_built(built: Result<Setup, Refusal>) -> Settled
     ensures { result ≡ built_answer built }
 {
     match built {
-        Built::Accepted(_) => {
+        Ok(_) => {
             let answer = bare_answer(5, 0);
             Settled {
                 stores: true,
                 answer,
             }
         }
-        Built::Refused(r) => {
+        Err(r) => {
             let answer = bare_answer(0, refusal_number(r));
             Settled {
                 stores: false,
@@ -55,7 +57,7 @@ pub fn fresh(setup: DeSetup) -> DeState
     let s = open_setup(setup);
     let flat_setup = flatten_setup(s);
     let d = flatten_choice(0);
-    let c = blank_candidate();
+    let c = Candidate::blank();
     let m = blank_member();
     let t = TrialProgress {
         number: 0,

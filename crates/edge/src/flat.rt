@@ -5,11 +5,10 @@ ghost use Rattle.edge.specs.Flat.{strategy_of, size_of, setup_of, float_step_of,
 
 use candidates::Candidate;
 use distribution::{
-    CategoricalDistribution, DimensionInfo, Distribution, FloatDistribution, FloatStep,
-    IntDistribution, IntStep,
+    CategoricalDistribution, DimensionInfo, Distribution, FloatDistribution, IntDistribution,
 };
-use evolution::{DEStrategy, Member, PopulationSize, Setup};
-use state::{FirstTrial, State, TrialProgress};
+use evolution::{DEStrategy, Member, Setup};
+use state::{State, TrialProgress};
 
 // strategy: 0 rand1, 1 best1, 2 current-to-best1. sized: 0 no size is set, 1 population_size is.
 #[repr(C)]
@@ -72,13 +71,13 @@ pub fn open_strategy(strategy: u64) -> DEStrategy
     DEStrategy::CurrentToBest1
 }
 
-fn open_size(sized: u64, size: u64) -> PopulationSize
+fn open_size(sized: u64, size: u64) -> Option<u64>
     ensures { result ≡ size_of sized size }
 {
     if sized == 0 {
-        return PopulationSize::Unset;
+        return None;
     }
-    PopulationSize::Of(size)
+    Some(size)
 }
 
 pub fn open_setup(s: DeSetup) -> Setup
@@ -95,22 +94,22 @@ pub fn open_setup(s: DeSetup) -> Setup
     }
 }
 
-fn open_float_step(stepped: u64, step: f64) -> FloatStep
+fn open_float_step(stepped: u64, step: f64) -> Option<f64>
     ensures { result ≡ float_step_of stepped step }
 {
     if stepped == 0 {
-        return FloatStep::Unset;
+        return None;
     }
-    FloatStep::By(step)
+    Some(step)
 }
 
-fn open_int_step(stepped: u64, step: i64) -> IntStep
+fn open_int_step(stepped: u64, step: i64) -> Option<i64>
     ensures { result ≡ int_step_of stepped step }
 {
     if stepped == 0 {
-        return IntStep::Unset;
+        return None;
     }
-    IntStep::By(step)
+    Some(step)
 }
 
 fn open_float(d: DeDistribution) -> FloatDistribution
@@ -174,13 +173,13 @@ pub fn open_dims(flat: [DeDistribution; 16]) -> [DimensionInfo; 16]
     dims
 }
 
-fn open_first(named: u64, first: u64) -> FirstTrial
+fn open_first(named: u64, first: u64) -> Option<u64>
     ensures { result ≡ first_of named first }
 {
     if named == 0 {
-        return FirstTrial::Unnamed;
+        return None;
     }
-    FirstTrial::Named(first)
+    Some(first)
 }
 
 // The state, its dimensions being opened already. Without their loop this is small enough to be compiled into its callers,

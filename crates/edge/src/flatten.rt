@@ -3,11 +3,9 @@ ghost use Rattle.std.specs.Prelude.{◌≡◌, map};
 ghost use Rattle.edge.specs.Flat.{bit, flat_strategy, flat_sized, flat_size, flat_setup, flat_float, flat_int, flat_choice, flat_distribution, flat_dim, flat_named, flat_first, flat_of};
 
 use crate::flat::{DeDistribution, DeSetup, DeState};
-use distribution::{
-    DimensionInfo, Distribution, FloatDistribution, FloatStep, IntDistribution, IntStep,
-};
-use evolution::{DEStrategy, PopulationSize, Setup};
-use state::{FirstTrial, State};
+use distribution::{DimensionInfo, Distribution, FloatDistribution, IntDistribution};
+use evolution::{DEStrategy, Setup};
+use state::State;
 
 fn bit_of(b: bool) -> u64
     ensures { result ≡ bit b }
@@ -25,21 +23,21 @@ fn strategy_number(strategy: DEStrategy) -> u64
     }
 }
 
-fn is_sized(size: PopulationSize) -> u64
+fn is_sized(size: Option<u64>) -> u64
     ensures { result ≡ flat_sized size }
 {
     match size {
-        PopulationSize::Unset => 0,
-        PopulationSize::Of(_) => 1,
+        None => 0,
+        Some(_) => 1,
     }
 }
 
-fn size_number(size: PopulationSize) -> u64
+fn size_number(size: Option<u64>) -> u64
     ensures { result ≡ flat_size size }
 {
     match size {
-        PopulationSize::Unset => 0,
-        PopulationSize::Of(n) => n,
+        None => 0,
+        Some(n) => n,
     }
 }
 
@@ -75,8 +73,8 @@ fn flatten_float(d: FloatDistribution) -> DeDistribution
         n_choices: 0,
     };
     match s {
-        FloatStep::Unset => flat,
-        FloatStep::By(step) => {
+        None => flat,
+        Some(step) => {
             flat.stepped = 1;
             flat.step = step;
             flat
@@ -101,8 +99,8 @@ fn flatten_int(d: IntDistribution) -> DeDistribution
         n_choices: 0,
     };
     match s {
-        IntStep::Unset => flat,
-        IntStep::By(step) => {
+        None => flat,
+        Some(step) => {
             flat.stepped = 1;
             flat.whole_step = step;
             flat
@@ -152,21 +150,21 @@ fn flatten_dims(dims: [DimensionInfo; 16]) -> [DeDistribution; 16]
     flat
 }
 
-fn is_named(first: FirstTrial) -> u64
+fn is_named(first: Option<u64>) -> u64
     ensures { result ≡ flat_named first }
 {
     match first {
-        FirstTrial::Unnamed => 0,
-        FirstTrial::Named(_) => 1,
+        None => 0,
+        Some(_) => 1,
     }
 }
 
-fn first_number(first: FirstTrial) -> u64
+fn first_number(first: Option<u64>) -> u64
     ensures { result ≡ flat_first first }
 {
     match first {
-        FirstTrial::Unnamed => 0,
-        FirstTrial::Named(n) => n,
+        None => 0,
+        Some(n) => n,
     }
 }
 

@@ -5,8 +5,8 @@ ghost use Rattle.edge.specs.Internal.{setting_of, known_setting, flat_internal, 
 use crate::answers::refusal_number;
 use crate::flat::{DeDistribution, open_distribution};
 use crate::known::known_distribution;
-use common::{Internal, to_internal};
-use distribution::ParamValue;
+use common::to_internal;
+use distribution::{ParamValue, Refusal};
 
 // kind: 1 real, 2 whole, 3 choice.
 #[repr(C)]
@@ -45,16 +45,16 @@ fn open_setting(s: DeSetting) -> ParamValue
     ParamValue::Categorical(s.choice)
 }
 
-fn flat_internal(answer: Internal) -> DeInternal
+fn flat_internal(answer: Result<f64, Refusal>) -> DeInternal
     ensures { result ≡ flat_internal answer }
 {
     match answer {
-        Internal::Value(value) => DeInternal {
+        Ok(value) => DeInternal {
             kind: 1,
             refusal: 0,
             value,
         },
-        Internal::Refused(r) => DeInternal {
+        Err(r) => DeInternal {
             kind: 0,
             refusal: refusal_number(r),
             value: 0.0,

@@ -5,7 +5,8 @@ ghost use Rattle.edge.specs.Look.{head_of, looked, look_at};
 use crate::answers::refusal_number;
 use crate::flat::{DeState, open, open_dims};
 use crate::known::{known_dims, known_state};
-use slots::{LookAnswer, Looked, look};
+use distribution::Refusal;
+use slots::{Looked, look};
 
 // kind: 0 refused, with document 01's number; 1 nothing yet; 2 best is the best slot, and the first n values are the slots'.
 #[repr(C)]
@@ -28,21 +29,21 @@ pub struct Head {
     pub best: usize,
 }
 
-fn head_of(answer: LookAnswer) -> Head
+fn head_of(answer: Result<Option<usize>, Refusal>) -> Head
     ensures { result ≡ head_of answer }
 {
     match answer {
-        LookAnswer::Refused(r) => Head {
+        Err(r) => Head {
             kind: 0,
             refusal: refusal_number(r),
             best: 0,
         },
-        LookAnswer::Nothing => Head {
+        Ok(None) => Head {
             kind: 1,
             refusal: 0,
             best: 0,
         },
-        LookAnswer::Best(best) => Head {
+        Ok(Some(best)) => Head {
             kind: 2,
             refusal: 0,
             best,
@@ -75,7 +76,7 @@ pub fn look_at(s: DeState) -> DeLook
     if known_state(s, known_dims(flat_dims)) {
         let dims = open_dims(flat_dims);
         let state = open(s, dims);
-        let seen = look(state);
+        let seen = look(&state);
         return flat_look(seen);
     }
     let values = [0.0f64; 160];

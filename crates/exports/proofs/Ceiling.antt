@@ -6,7 +6,7 @@ use mathlib.Core.Path.{◌≡◌, refl, sym, ap, subst}
 use mathlib.Core.Bool.{Bool, true, false, ◌&&◌, cond}
 use lib.Dec.{eqb, leb}
 use Rattle.ledger.specs.State as Plain
-use Rattle.ledger.specs.State.{Result}
+use Rattle.ledger.specs.State.{Returned}
 use Rattle.kernel.specs.De.{de}
 use Rattle.state.specs.declared.State.{State}
 use Rattle.state.proofs.Flags.{true-and}
@@ -25,7 +25,7 @@ use Rattle.exports.proofs.Demand.{setting-draws}
 
 -- what is true of a call that draws nothing and of what the sampler makes is true of the library's call
 module _ (f : DeState) (q : Sent) (P : ℕ → DeState → Type 0) (idle : (g : DeState) → P 0 g) where
-  abbrev r : Result de State
+  abbrev r : Returned de State
   r = sampled_from f q.call q.history
 
   of-sampler : (known_state f ≡ true → P r.draws (flat_of r.state)) → P (answer_to f q).draws (leaves f q)
@@ -53,7 +53,7 @@ known-strategy f k =
 -- ---- THE THEOREMS
 
 module _ (f : DeState) (q : Sent) where
-  abbrev made : Result de State
+  abbrev made : Returned de State
   made = sampled_from f q.call q.history
 
   pub library-draw-ceiling : (answer_to f q).draws ≤ draw_ceiling (open_of f) (open_of (leaves f q)) q.call.trial

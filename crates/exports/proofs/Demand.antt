@@ -1,19 +1,17 @@
 -- DEMAND 3 OF THE LIBRARY: over every list of `de_sample` calls that C callers can send from what an accepted `de_new` left in the lent memory, each call on what the last one left. The memory always
 -- holds a state of the sampler in numbers (Edge), so that the library meets the definition because the sampler does; and only what a call's numbers stand for decides the answer.
+use Rattle.std.specs.Prelude.{Option, Some, None, Ok, Err, ⊤, is_ok, Result}
 use Prim.Native.Nat.{ℕ}
 use mathlib.Core.Path.{◌≡◌, refl, sym, ap, subst, ◌∙◌}
 use mathlib.Core.Bool.{Bool, true, false, cond, true≢false}
 use mathlib.Core.List.{List, [], ◌∷◌}
-use mathlib.Core.Option.{Option, none, some}
 use Rattle.distribution.specs.declared.ParamValue.{ParamValue}
 use Rattle.distribution.specs.declared.ParamValue.TheVariants as P
-use Rattle.distribution.specs.declared.Verdict.{Verdict}
-use Rattle.distribution.specs.declared.Verdict.TheVariants as Judged
 use Rattle.evolution.specs.declared.Setup.{Setup}
 use Rattle.ledger.specs.Words.{or_else}
 use Rattle.ledger.specs.Call.{Call, call_refusal}
 use Rattle.ledger.specs.State as Plain
-use Rattle.ledger.specs.State.{Result, fresh, refuse}
+use Rattle.ledger.specs.State.{Returned, fresh, refuse}
 use Rattle.ledger.specs.Assignment.{Accepted}
 use Rattle.ledger.specs.Soundness.{sound_test}
 use Rattle.ledger.specs.Sample.{sample, step, outcome, state_refusal, accept}
@@ -21,7 +19,7 @@ use Rattle.ledger.specs.Sampler.{definition, viewed, returns_from, Meets}
 use Rattle.ledger.proofs.Theorem.{program-demand3, program-answers}
 use Rattle.kernel.specs.De.{de}
 use Rattle.kernel.proofs.Kernel.{de-laws}
-use Rattle.state.specs.Setup.{setup_verdict, is_valid}
+use Rattle.state.specs.Setup.{setup_verdict}
 use Rattle.state.specs.View.{view}
 use Rattle.state.specs.declared.State.{State}
 use Rattle.de.specs.Build.{built_by, built_of, fresh_state}
@@ -38,6 +36,7 @@ use Rattle.exports.specs.Calls.{sample_answer, sample_state, new_state}
 use Rattle.edge.specs.Build.{built_answer, settled_setup, fresh_flat}
 use Rattle.exports.specs.Program.{Sent, is_known, meant, meant_by, read_answer, called, spelled, library, reads_from, LibraryDemand3}
 use Rattle.exports.proofs.Edge.{distribution-back, distribution-known, lossless, held_after, one_answer, one_state, same_answer, same_state, unknown-answer, unknown-state}
+use Rattle.distribution.specs.declared.Refusal.{Refusal}
 
 -- ---- what a caller reads is the sampler's answer
 
@@ -54,14 +53,14 @@ setting-draws (P.Categorical k) draws = refl
 -- ---- "has no setting, counts zero draws and hands back the state that came in"
 
 -- the definition's answer to a refused call
-abbrev Unmoved : Plain.State de → Result de (Plain.State de) → Plain.Answer de → Type 0
+abbrev Unmoved : Plain.State de → Returned de (Plain.State de) → Plain.Answer de → Type 0
 Unmoved m r (Plain.refused n) = r ≡ record { answer = Plain.refused n; draws = 0; state = m }
 Unmoved m r (Plain.given x) = Unit {0}
 
 outcome-unmoved : (m : Plain.State de) (o : Option ℕ) (a : Option (Accepted de)) → Unmoved m (outcome de m o a) (outcome de m o a).answer
-outcome-unmoved m (some r) a = refl
-outcome-unmoved m none none = refl
-outcome-unmoved m none (some a) = tt
+outcome-unmoved m (Some r) a = refl
+outcome-unmoved m None None = refl
+outcome-unmoved m None (Some a) = tt
 
 sample-unmoved : (S : Setup) (m : Plain.State de) (c : Call de) → Unmoved m (sample de S m c) (sample de S m c).answer
 unfolding sample step
@@ -74,18 +73,18 @@ sample-unmoved S m c = go (sound_test de S m)
 -- ---- a call on the memory that holds s
 
 module _ (s : State) (c : Call de) where
-  abbrev result : Result de State
+  abbrev result : Returned de State
   result = sample_of s c.distribution.distribution c.number c.history
 
   answer-is : sample_answer (flat_of s) (spelled c).call c.history ≡ (answered result.answer result.draws).answer
   answer-is =
       one_answer s (spelled c).call c.history (distribution-known c.distribution.distribution)
-      ∙ ap (λ (r : Result de State). (answered r.answer r.draws).answer) (ap (λ d. sample_of s d c.number c.history) (distribution-back c.distribution.distribution))
+      ∙ ap (λ (r : Returned de State). (answered r.answer r.draws).answer) (ap (λ d. sample_of s d c.number c.history) (distribution-back c.distribution.distribution))
 
   state-is : sample_state (flat_of s) (spelled c).call c.history ≡ held_after result.answer s result.state
   state-is =
       one_state s (spelled c).call c.history (distribution-known c.distribution.distribution)
-      ∙ ap (λ (r : Result de State). held_after r.answer s r.state) (ap (λ d. sample_of s d c.number c.history) (distribution-back c.distribution.distribution))
+      ∙ ap (λ (r : Returned de State). held_after r.answer s r.state) (ap (λ d. sample_of s d c.number c.history) (distribution-back c.distribution.distribution))
 
 -- what a call returns that the sampler refuses, and one that it accepts
 given_is : (s : State) (c : Call de) (x : ParamValue) → (result s c).answer ≡ Plain.given x
@@ -101,7 +100,7 @@ refused-is s c n e =
     let m : sample_state (flat_of s) (spelled c).call c.history ≡ flat_of s = state-is s c ∙ ap (λ (z : Plain.Answer de). held_after z s (result s c).state) e in
     λ i. record { answer = ap read_answer a i; draws = ap (λ (z : DeAnswer). z.draws) a i; state = m i }
 
-module _ (f : DeState) (u : DeSetup) (known : known_setup u ≡ true) (ok : is_valid (setup_verdict (setup_of u)) ≡ true) where
+module _ (f : DeState) (u : DeSetup) (known : known_setup u ≡ true) (ok : is_ok (setup_verdict (setup_of u)) ≡ true) where
   abbrev S : Setup
   S = setup_of u
 
@@ -120,9 +119,9 @@ module _ (f : DeState) (u : DeSetup) (known : known_setup u ≡ true) (ok : is_v
   unfolding new_state settled_setup built_of fresh_flat
   new_is = rw known (go (setup_verdict S) ok)
     where
-      go : (v : Verdict) → is_valid v ≡ true → cond (built_answer (built_by v S)).stores (flat_of (fresh_state S)) f ≡ flat_of (fresh_state S)
-      go Judged.Valid e = refl
-      go (Judged.Refused r) e = absurd (true≢false (sym e))
+      go : (v : Result ⊤ Refusal) → is_ok v ≡ true → cond (built_answer (built_by v S)).stores (flat_of (fresh_state S)) f ≡ flat_of (fresh_state S)
+      go (Ok tt) e = refl
+      go (Err r) e = absurd (true≢false (sym e))
 
   -- ---- one call
 
@@ -137,7 +136,7 @@ module _ (f : DeState) (u : DeSetup) (known : known_setup u ≡ true) (ok : is_v
             ∙ (λ i. record { answer = sym e i; draws = (result s c).draws; state = view (lossless (result s c).state i) })
             ∙ own.call_view s c k
         go (Plain.refused n) e =
-            let q : (sample de S (view s) c).answer ≡ Plain.refused n = sym (ap (λ (z : Result de (Plain.State de)). z.answer) (own.call_view s c k)) ∙ e in
+            let q : (sample de S (view s) c).answer ≡ Plain.refused n = sym (ap (λ (z : Returned de (Plain.State de)). z.answer) (own.call_view s c k)) ∙ e in
             ap (viewed de (library f u)) (refused-is s c n e)
             ∙ (λ i. record { answer = Plain.refused n; draws = 0; state = view (lossless s i) })
             ∙ sym (subst (Unmoved (view s) (sample de S (view s) c)) q (sample-unmoved S (view s) c))
@@ -146,8 +145,8 @@ module _ (f : DeState) (u : DeSetup) (known : known_setup u ≡ true) (ok : is_v
     call-holds = go (result s c).answer refl
       where
         go : (a : Plain.Answer de) → (result s c).answer ≡ a → Holds (called (flat_of s) (spelled c)).state
-        go (Plain.given x) e = record { state = (result s c).state; clean = own.call_clean s c k; is = ap (λ (z : Result de DeState). z.state) (given_is s c x e) }
-        go (Plain.refused n) e = record { state = s; clean = k; is = ap (λ (z : Result de DeState). z.state) (refused-is s c n e) }
+        go (Plain.given x) e = record { state = (result s c).state; clean = own.call_clean s c k; is = ap (λ (z : Returned de DeState). z.state) (given_is s c x e) }
+        go (Plain.refused n) e = record { state = s; clean = k; is = ap (λ (z : Returned de DeState). z.state) (refused-is s c n e) }
 
   meets : Meets de (library f u) S
   meets =
@@ -188,8 +187,8 @@ module _ (f : DeState) (u : DeSetup) (known : known_setup u ≡ true) (ok : is_v
       go : (b : Bool) → is_known q ≡ b → ((x : DeState) → reads_from f u x qs ≡ returns_from de (library f u) x (meant_by qs))
           → cond b (viewed de (library f u) (called g q) ∷ reads_from f u next qs) (reads_from f u next qs) ≡ returns_from de (library f u) g (cond b (meant q ∷ meant_by qs) (meant_by qs))
       go true k rest =
-          ap (λ (r : Result de DeState). viewed de (library f u) r ∷ reads_from f u r.state qs) (meant_is g q k)
-          ∙ ap (λ (rs : List (Result de (Plain.State de))). viewed de (library f u) (called g (spelled (meant q))) ∷ rs) (rest (called g (spelled (meant q))).state)
+          ap (λ (r : Returned de DeState). viewed de (library f u) r ∷ reads_from f u r.state qs) (meant_is g q k)
+          ∙ ap (λ (rs : List (Returned de (Plain.State de))). viewed de (library f u) (called g (spelled (meant q))) ∷ rs) (rest (called g (spelled (meant q))).state)
       go false k rest = ap (λ (x : DeState). reads_from f u x qs) (unknown-state g q.history q.call k) ∙ rest g
 
   -- THE THEOREM

@@ -1,5 +1,6 @@
 -- Nothing is lost at the edge: a state that goes out as numbers is known and comes back as it was. So a call on a state that the library holds is the
 -- sampler's own call, and what is proved of the sampler holds of the library.
+use Rattle.std.specs.Prelude.{Option, Some, None, ℕ}
 use mathlib.Core.Path.{◌≡◌, refl, ap, ◌∙◌}
 use mathlib.Core.Bool.{Bool, true, false, cond}
 use mathlib.Core.List.{List, [], ◌∷◌, map}
@@ -8,23 +9,15 @@ use lib.Ieee.{Float}
 use lib.IntN.{ℤ}
 use Rattle.ledger.specs.Words.{all}
 use Rattle.ledger.specs.State as Plain
-use Rattle.ledger.specs.State.{Result}
+use Rattle.ledger.specs.State.{Returned}
 use Rattle.kernel.specs.De.{de}
 use Rattle.distribution.specs.declared.DimensionInfo.{DimensionInfo}
 use Rattle.distribution.specs.declared.Distribution.{Distribution}
 use Rattle.distribution.specs.declared.Distribution.TheVariants as D
-use Rattle.distribution.specs.declared.FloatStep.{FloatStep}
-use Rattle.distribution.specs.declared.FloatStep.TheVariants as FS
-use Rattle.distribution.specs.declared.IntStep.{IntStep}
-use Rattle.distribution.specs.declared.IntStep.TheVariants as IS
 use Rattle.evolution.specs.declared.DEStrategy.{DEStrategy}
 use Rattle.evolution.specs.declared.DEStrategy.TheVariants.{Rand1, Best1, CurrentToBest1}
-use Rattle.evolution.specs.declared.PopulationSize.{PopulationSize}
-use Rattle.evolution.specs.declared.PopulationSize.TheVariants.{Unset, Of}
 use Rattle.evolution.specs.declared.Setup.{Setup}
 use Rattle.history.specs.declared.CompletedTrial.{CompletedTrial}
-use Rattle.state.specs.declared.FirstTrial.{FirstTrial}
-use Rattle.state.specs.declared.FirstTrial.TheVariants.{Unnamed, Named}
 use Rattle.state.specs.declared.State.{State}
 use Rattle.state.proofs.Flags.{and-true}
 use Rattle.state.proofs.Laid.{back}
@@ -44,13 +37,13 @@ strategy-back Rand1 = refl
 strategy-back Best1 = refl
 strategy-back CurrentToBest1 = refl
 
-size_back : (z : PopulationSize) → size_of (flat_sized z) (flat_size z) ≡ z
-size_back Unset = refl
-size_back (Of n) = refl
+size_back : (z : Option ℕ) → size_of (flat_sized z) (flat_size z) ≡ z
+size_back None = refl
+size_back (Some n) = refl
 
-first_back : (z : FirstTrial) → first_of (flat_named z) (flat_first z) ≡ z
-first_back Unnamed = refl
-first_back (Named n) = refl
+first_back : (z : Option ℕ) → first_of (flat_named z) (flat_first z) ≡ z
+first_back None = refl
+first_back (Some n) = refl
 
 pub setup-back : (S : Setup) → setup_of (flat_setup S) ≡ S
 unfolding setup_of flat_setup
@@ -63,20 +56,20 @@ setup-back S =
       seed = S.seed;
     }
 
-float_back : (a b : Float) (l : Bool) (s : FloatStep)
+float_back : (a b : Float) (l : Bool) (s : Option Float)
     → distribution_of (float_by (record { low = a; high = b; log_scale = l; step = s }) s) ≡ D.Float (record { low = a; high = b; log_scale = l; step = s })
 unfolding distribution_of
-float_back a b true FS.Unset = refl
-float_back a b false FS.Unset = refl
-float_back a b true (FS.By x) = refl
-float_back a b false (FS.By x) = refl
+float_back a b true None = refl
+float_back a b false None = refl
+float_back a b true (Some x) = refl
+float_back a b false (Some x) = refl
 
-int-back : (a b : ℤ) (l : Bool) (s : IntStep) → distribution_of (int_by (record { low = a; high = b; log_scale = l; step = s }) s) ≡ D.Int (record { low = a; high = b; log_scale = l; step = s })
+int-back : (a b : ℤ) (l : Bool) (s : Option ℤ) → distribution_of (int_by (record { low = a; high = b; log_scale = l; step = s }) s) ≡ D.Int (record { low = a; high = b; log_scale = l; step = s })
 unfolding distribution_of
-int-back a b true IS.Unset = refl
-int-back a b false IS.Unset = refl
-int-back a b true (IS.By x) = refl
-int-back a b false (IS.By x) = refl
+int-back a b true None = refl
+int-back a b false None = refl
+int-back a b true (Some x) = refl
+int-back a b false (Some x) = refl
 
 pub distribution-back : (d : Distribution) → distribution_of (flat_distribution d) ≡ d
 unfolding distribution_of flat_distribution
@@ -98,13 +91,13 @@ strategy-known Rand1 = refl
 strategy-known Best1 = refl
 strategy-known CurrentToBest1 = refl
 
-size-known : (z : PopulationSize) → leb (flat_sized z) 1 ≡ true
-size-known Unset = refl
-size-known (Of n) = refl
+size-known : (z : Option ℕ) → leb (flat_sized z) 1 ≡ true
+size-known None = refl
+size-known (Some n) = refl
 
-first-known : (z : FirstTrial) → leb (flat_named z) 1 ≡ true
-first-known Unnamed = refl
-first-known (Named n) = refl
+first-known : (z : Option ℕ) → leb (flat_named z) 1 ≡ true
+first-known None = refl
+first-known (Some n) = refl
 
 bit-known : (b : Bool) → leb (bit b) 1 ≡ true
 bit-known true = refl
@@ -114,19 +107,19 @@ pub setup-known : (S : Setup) → known_setup (flat_setup S) ≡ true
 unfolding known_setup flat_setup
 setup-known S = and-true (strategy-known S.strategy) (size-known S.population_size)
 
-float_known : (a b : Float) (l : Bool) (s : FloatStep) → known_distribution (float_by (record { low = a; high = b; log_scale = l; step = s }) s) ≡ true
+float_known : (a b : Float) (l : Bool) (s : Option Float) → known_distribution (float_by (record { low = a; high = b; log_scale = l; step = s }) s) ≡ true
 unfolding known_distribution
-float_known a b true FS.Unset = refl
-float_known a b false FS.Unset = refl
-float_known a b true (FS.By x) = refl
-float_known a b false (FS.By x) = refl
+float_known a b true None = refl
+float_known a b false None = refl
+float_known a b true (Some x) = refl
+float_known a b false (Some x) = refl
 
-int-known : (a b : ℤ) (l : Bool) (s : IntStep) → known_distribution (int_by (record { low = a; high = b; log_scale = l; step = s }) s) ≡ true
+int-known : (a b : ℤ) (l : Bool) (s : Option ℤ) → known_distribution (int_by (record { low = a; high = b; log_scale = l; step = s }) s) ≡ true
 unfolding known_distribution
-int-known a b true IS.Unset = refl
-int-known a b false IS.Unset = refl
-int-known a b true (IS.By x) = refl
-int-known a b false (IS.By x) = refl
+int-known a b true None = refl
+int-known a b false None = refl
+int-known a b true (Some x) = refl
+int-known a b false (Some x) = refl
 
 pub distribution-known : (d : Distribution) → known_distribution (flat_distribution d) ≡ true
 unfolding known_distribution flat_distribution
@@ -173,7 +166,7 @@ held_after (Plain.given x) old new = flat_of new
 held_after (Plain.refused n) old new = flat_of old
 
 module _ (s : State) (c : DeCall) (h : List CompletedTrial) (k : known_distribution c.distribution ≡ true) where
-  abbrev after : State → Result de State
+  abbrev after : State → Returned de State
   after t = sample_of t (distribution_of c.distribution) c.trial h
 
   pub one_answer : sample_answer (flat_of s) c h ≡ (answered (after s).answer (after s).draws).answer

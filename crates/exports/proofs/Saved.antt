@@ -1,5 +1,6 @@
 -- TUNING THAT SURVIVES A RESTART, OF THE LIBRARY (W2): a memory that was saved is restored to any other, and the calls after it are answered as before it. It is `survives` of the crate saved, since
 -- opening what was flattened gives the state back, and what a memory stands for alone decides what a call answers.
+use Rattle.std.specs.Prelude.{Result, Ok, Err, ⊤}
 use Prim.Native.Nat.{ℕ}
 use native.Mathlib.Omega.{arith}
 use mathlib.Core.Path.{◌≡◌, refl, sym, ap, ◌∙◌}
@@ -14,10 +15,6 @@ use Rattle.de.specs.Sample.{sample_of}
 use Rattle.saved.specs.Restore.{taken, restore_of}
 use Rattle.saved.specs.Save.{save_of, saved_in}
 use Rattle.saved.specs.declared.FileRefusal.TheVariants.{BadContent}
-use Rattle.saved.specs.declared.SaveAnswer.{SaveAnswer}
-use Rattle.saved.specs.declared.SaveAnswer.TheVariants as W
-use Rattle.saved.specs.declared.RestoreAnswer.{RestoreAnswer}
-use Rattle.saved.specs.declared.RestoreAnswer.TheVariants as R
 use Rattle.saved.specs.declared.Restored.{Restored}
 use Rattle.saved.proofs.Contracts.{past-untouched, refused-untouched}
 use Rattle.saved.proofs.Survives.{survives}
@@ -36,6 +33,7 @@ use Rattle.exports.specs.Program.{Sent, answer_to, leaves}
 use Rattle.exports.specs.Saved.{answers_from, Survives}
 use Rattle.exports.proofs.Edge.{lossless, flat-known}
 use Rattle.exports.proofs.Typed.{opened-typed}
+use Rattle.saved.specs.declared.FileRefusal.{FileRefusal}
 
 -- ---- two memories that stand for one state are answered alike
 
@@ -93,18 +91,18 @@ module _ (f g : DeState) (a : Alike f g) where
 -- a save call that answers saved had a known state, and is the writer's own
 pub record Saves (f : DeState) (file : List ℕ) (n : ℕ) : Type 0 where
   pub known : known_state f ≡ true
-  pub written : save_of (open_of f) (length file) ≡ W.Length n
+  pub written : save_of (open_of f) (length file) ≡ Ok n
 
-is-length : (a : SaveAnswer) (n : ℕ) → saved_answer a ≡ saved_answer (W.Length n) → a ≡ W.Length n
-is-length (W.Length m) n e = ap W.Length (ap (λ (z : DeFile). z.length) e)
-is-length (W.Refused r) n e = let z = ap (λ (z : DeFile). z.kind) e in absurd (omega arith)
+is-length : (a : Result ℕ FileRefusal) (n : ℕ) → saved_answer a ≡ saved_answer (Ok n) → a ≡ Ok n
+is-length (Ok m) n e = ap Ok (ap (λ (z : DeFile). z.length) e)
+is-length (Err r) n e = let z = ap (λ (z : DeFile). z.kind) e in absurd (omega arith)
 
 module _ (f : DeState) (file : List ℕ) where
-  saves : (n : ℕ) → save_answer f (length file) ≡ saved_answer (W.Length n) → Saves f file n
+  saves : (n : ℕ) → save_answer f (length file) ≡ saved_answer (Ok n) → Saves f file n
   unfolding save_answer
   saves n e = go (known_state f) refl e
     where
-      go : (b : Bool) → known_state f ≡ b → cond b (saved_answer (save_of (open_of f) (length file))) (refused_file BadContent) ≡ saved_answer (W.Length n) → Saves f file n
+      go : (b : Bool) → known_state f ≡ b → cond b (saved_answer (save_of (open_of f) (length file))) (refused_file BadContent) ≡ saved_answer (Ok n) → Saves f file n
       go true k w = record { known = k; written = is-length (save_of (open_of f) (length file)) n w }
       go false k w = let z = ap (λ (z : DeFile). z.kind) w in absurd (omega arith)
 
@@ -115,7 +113,7 @@ module _ (f : DeState) (file : List ℕ) where
 -- ---- THE THEOREMS
 
 -- for every memory f that a save call answers saved for, and every memory g; of f its type is the only hypothesis
-module _ (f g : DeState) (us : List Val) (typed : Is F.the_row f us) (file : List ℕ) (n : ℕ) (e : save_answer f (length file) ≡ saved_answer (W.Length n)) where
+module _ (f g : DeState) (us : List Val) (typed : Is F.the_row f us) (file : List ℕ) (n : ℕ) (e : save_answer f (length file) ≡ saved_answer (Ok n)) where
   abbrev s : Saves f file n
   s = saves f file n e
 
@@ -147,18 +145,18 @@ restore-refuses : (g : DeState) (bytes : List ℕ) → (restore_answer bytes).ki
 unfolding restore_answer restore_state
 restore-refuses g bytes e = go (read_of bytes).answer e
   where
-    go : (a : RestoreAnswer) → (settled_restore a).answer.kind ≡ 0 → cond (settled_restore a).stores (flat_of (read_of bytes).state) g ≡ g
-    go R.Taken w = absurd (omega arith)
-    go (R.Refused r) w = refl
+    go : (a : Result ⊤ FileRefusal) → (settled_restore a).answer.kind ≡ 0 → cond (settled_restore a).stores (flat_of (read_of bytes).state) g ≡ g
+    go (Ok tt) w = absurd (omega arith)
+    go (Err r) w = refl
 
 save-refuses : (f : DeState) (file : List ℕ) → (save_answer f (length file)).kind ≡ 0 → save_file f file ≡ file
 unfolding save_answer save_file
 save-refuses f file e = go (known_state f) (save_of (open_of f) (length file)) refl e
   where
-    go : (b : Bool) (a : SaveAnswer) → save_of (open_of f) (length file) ≡ a → (cond b (saved_answer a) (refused_file BadContent)).kind ≡ 0 → cond b (saved_in (open_of f) file) file ≡ file
+    go : (b : Bool) (a : Result ℕ FileRefusal) → save_of (open_of f) (length file) ≡ a → (cond b (saved_answer a) (refused_file BadContent)).kind ≡ 0 → cond b (saved_in (open_of f) file) file ≡ file
     go false a k w = refl
-    go true (W.Length n) k w = absurd (omega arith)
-    go true (W.Refused r) k w = refused-untouched (open_of f) file r k
+    go true (Ok n) k w = absurd (omega arith)
+    go true (Err r) k w = refused-untouched (open_of f) file r k
 
 -- a refused restore call leaves the memory as it was, and a refused save call the lent file
 pub library-refuses : (f g : DeState) (file bytes : List ℕ) → ((restore_answer bytes).kind ≡ 0 → restore_state g bytes ≡ g) × ((save_answer f (length file)).kind ≡ 0 → save_file f file ≡ file)

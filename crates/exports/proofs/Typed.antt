@@ -1,4 +1,5 @@
 -- What the type of a memory says, said of the state that it stands for: a DeState of the machine's numbers opens to a State of the machine's numbers.
+use Rattle.std.specs.Prelude.{Some, None}
 use Prim.Native.Nat.{ℕ, ◌^◌, ◌<◌}
 use mathlib.Core.Path.{refl, ◌∙◌}
 use mathlib.Core.Bool.{Bool, true, false, cond}
@@ -11,7 +12,7 @@ use mir.Syntax.{w64}
 use mir.Val.{Val, vint, vbool, vstruct, of_list}
 use types.Match.{live}
 use denote.Array.{each, array_val}
-use denote.Builtin.{Array}
+use denote.Builtin.{Array, f64, i64, u64}
 use denote.Enum.Declared as E
 use denote.Enum.Enum.{payload}
 use denote.Laws.{Is}
@@ -20,24 +21,17 @@ use denote.Shadow.{shadow}
 use denote.Struct.Declared as D
 use denote.Struct.Field.{Field, f64-field, i64-field}
 use denote.Struct.Struct.{AreAll}
+use Rattle.std.specs.contracts.option.Option as O
 use Rattle.distribution.specs.contracts.CategoricalDistribution as CD
 use Rattle.distribution.specs.contracts.DimensionInfo as DI
 use Rattle.distribution.specs.contracts.Distribution as DD
 use Rattle.distribution.specs.contracts.FloatDistribution as FD
-use Rattle.distribution.specs.contracts.FloatStep as FS
 use Rattle.distribution.specs.contracts.IntDistribution as ID
-use Rattle.distribution.specs.contracts.IntStep as IS
 use Rattle.distribution.specs.declared.Distribution.TheVariants.{Float as FloatD, Int as IntD, Categorical}
-use Rattle.distribution.specs.declared.FloatStep.TheVariants as FloatStep
-use Rattle.distribution.specs.declared.IntStep.TheVariants as IntStep
 use Rattle.evolution.specs.contracts.DEStrategy as ST
-use Rattle.evolution.specs.contracts.PopulationSize as PS
 use Rattle.evolution.specs.contracts.Setup as SU
 use Rattle.evolution.specs.declared.DEStrategy.TheVariants.{Rand1, Best1, CurrentToBest1}
-use Rattle.evolution.specs.declared.PopulationSize.TheVariants.{Unset, Of}
-use Rattle.state.specs.contracts.FirstTrial as FT
 use Rattle.state.specs.contracts.State as S
-use Rattle.state.specs.declared.FirstTrial.TheVariants.{Unnamed, Named}
 use Rattle.edge.specs.contracts.flat.DeDistribution as FlatD
 use Rattle.edge.specs.contracts.flat.DeSetup as FlatU
 use Rattle.edge.specs.contracts.flat.DeState as F
@@ -64,9 +58,9 @@ strategy true b = enum-fits ST.the_type Rand1 [] (tt, (refl, tt))
 strategy false true = enum-fits ST.the_type Best1 [] (tt, (refl, tt))
 strategy false false = enum-fits ST.the_type CurrentToBest1 [] (tt, (refl, tt))
 
-size : (b : Bool) (n : ℕ) → n < 2 ^ 64 → Fits PS.the_field (cond b Unset (Of n))
-size true n h = enum-fits PS.the_type Unset [] (tt, (refl, tt))
-size false n h = enum-fits PS.the_type (Of n) (vint w64 n ∷ []) ((vint w64 n ∷ [], tt), (refl, ((refl, h), tt)))
+size : (b : Bool) (n : ℕ) → n < 2 ^ 64 → Fits (O.the_field u64) (cond b None (Some n))
+size true n h = enum-fits (O.the_type u64) None [] (tt, (refl, tt))
+size false n h = enum-fits (O.the_type u64) (Some n) (vint w64 n ∷ []) ((vint w64 n ∷ [], tt), (refl, ((refl, h), tt)))
 
 pub setup : (u : DeSetup) (vs : List Val) → Is (FlatU.the_field).row ((FlatU.the_field).into u) vs → Fits SU.the_field (setup_of u)
 unfolding setup_of
@@ -77,19 +71,19 @@ setup u vs p =
     let z = size (eqb u.sized 0) u.population_size q.1.1.1.1.0.1 in
     struct-fits SU.the_type (setup_of u) (a.0, (a.1.0, (t.0 ∷ [], (z.0 ∷ [], a.1.1.1.1.1)))) (q.0, (q.1.0, (t.1, (z.1, q.1.1.1.1.1))))
 
-first : (b : Bool) (n : ℕ) → n < 2 ^ 64 → Fits FT.the_field (cond b Unnamed (Named n))
-first true n h = enum-fits FT.the_type Unnamed [] (tt, (refl, tt))
-first false n h = enum-fits FT.the_type (Named n) (vint w64 n ∷ []) ((vint w64 n ∷ [], tt), (refl, ((refl, h), tt)))
+first : (b : Bool) (n : ℕ) → n < 2 ^ 64 → Fits (O.the_field u64) (cond b None (Some n))
+first true n h = enum-fits (O.the_type u64) None [] (tt, (refl, tt))
+first false n h = enum-fits (O.the_type u64) (Some n) (vint w64 n ∷ []) ((vint w64 n ∷ [], tt), (refl, ((refl, h), tt)))
 
 -- ---- a dimension
 
-float-step : (b : Bool) (x : Float) (vs : List Val) → Is f64-field.row x vs → Fits FS.the_field (cond b FloatStep.Unset (FloatStep.By x))
-float-step true x vs p = enum-fits FS.the_type FloatStep.Unset [] (tt, (refl, tt))
-float-step false x vs p = enum-fits FS.the_type (FloatStep.By x) (vs ++ []) ((vs, tt), (refl, (p, tt)))
+float-step : (b : Bool) (x : Float) (vs : List Val) → Is f64-field.row x vs → Fits (O.the_field f64) (cond b None (Some x))
+float-step true x vs p = enum-fits (O.the_type f64) None [] (tt, (refl, tt))
+float-step false x vs p = enum-fits (O.the_type f64) (Some x) (vs ++ []) ((vs, tt), (refl, (p, tt)))
 
-int-step : (b : Bool) (x : ℤ) (vs : List Val) → Is i64-field.row x vs → Fits IS.the_field (cond b IntStep.Unset (IntStep.By x))
-int-step true x vs p = enum-fits IS.the_type IntStep.Unset [] (tt, (refl, tt))
-int-step false x vs p = enum-fits IS.the_type (IntStep.By x) (vs ++ []) ((vs, tt), (refl, (p, tt)))
+int-step : (b : Bool) (x : ℤ) (vs : List Val) → Is i64-field.row x vs → Fits (O.the_field i64) (cond b None (Some x))
+int-step true x vs p = enum-fits (O.the_type i64) None [] (tt, (refl, tt))
+int-step false x vs p = enum-fits (O.the_type i64) (Some x) (vs ++ []) ((vs, tt), (refl, (p, tt)))
 
 module _ (d : DeDistribution) (vs : List Val) (p : Is (FlatD.the_field).row ((FlatD.the_field).into d) vs) where
   abbrev a : Valss (D.fields FlatD.the_type)

@@ -1,7 +1,7 @@
 -- The three calls that write a lent state, in numbers: what goes out, and what the lent state is after the call.
 use Rattle.std.specs.Prelude.{ℕ, cond, List}
 use Rattle.history.specs.declared.CompletedTrial.{CompletedTrial}
-use Rattle.ledger.specs.State.{Result}
+use Rattle.ledger.specs.State.{Returned}
 use Rattle.kernel.specs.De.{de}
 use Rattle.state.specs.declared.State.{State}
 use Rattle.de.specs.Sample.{sample_of}
@@ -28,7 +28,7 @@ new_state f u = cond (settled_setup u).stores (fresh_flat u) f
 -- ---- the sample call
 
 -- what the sampler makes of the opened state and call
-abbrev pub sampled_from : DeState → DeCall → List CompletedTrial → Result de State
+abbrev pub sampled_from : DeState → DeCall → List CompletedTrial → Returned de State
 sampled_from f c h = sample_of (open_of f) (distribution_of c.distribution) c.trial h
 
 abbrev pub settled_sample : DeState → DeCall → List CompletedTrial → Settled

@@ -6,7 +6,7 @@ use Rattle.history.specs.declared.CompletedTrial.{CompletedTrial}
 use Rattle.ledger.specs.Words.{All}
 use Rattle.ledger.specs.Call.{Call}
 use Rattle.ledger.specs.State as Plain
-use Rattle.ledger.specs.State.{Result}
+use Rattle.ledger.specs.State.{Returned}
 use Rattle.ledger.specs.Sampler.{Sampler, viewed, returns_from}
 use Rattle.ledger.specs.Claim.{Demand3}
 use Rattle.kernel.specs.De.{de}
@@ -56,7 +56,7 @@ answer_to f q = sample_answer f q.call q.history
 abbrev pub leaves : DeState → Sent → DeState
 leaves f q = sample_state f q.call q.history
 
-abbrev pub called : DeState → Sent → Result de DeState
+abbrev pub called : DeState → Sent → Returned de DeState
 called f q = record { answer = read_answer (answer_to f q); draws = (answer_to f q).draws; state = leaves f q }
 
 -- a call in numbers, with 0 in the fields that its kind has no use for
@@ -70,7 +70,7 @@ library f u = record { Kept = DeState; view = λ g. view (open_of g); new = new_
 -- ---- a list of sent calls from memory g on
 
 -- what the caller reads after each call that stands for one: answer, draws, and the state in the memory
-unfoldable pub reads_from : DeState → DeSetup → DeState → List Sent → List (Result de (Plain.State de))
+unfoldable pub reads_from : DeState → DeSetup → DeState → List Sent → List (Returned de (Plain.State de))
 reads_from f u g [] = []
 reads_from f u g (q ∷ qs) =
     cond (is_known q) (viewed de (library f u) (called g q) ∷ reads_from f u (leaves g q) qs) (reads_from f u (leaves g q) qs)

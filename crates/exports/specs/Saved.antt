@@ -1,6 +1,5 @@
 -- "Tuning that survives a restart", of the library: what a save call and the restore call of its file do together, in the memory that callers hold.
-use Rattle.std.specs.Prelude.{ℕ, ◌≡◌, List, [], ◌∷◌, length, take, drop}
-use Rattle.saved.specs.declared.RestoreAnswer.TheVariants.{Taken}
+use Rattle.std.specs.Prelude.{ℕ, ◌≡◌, List, [], ◌∷◌, length, take, drop, Ok}
 use Rattle.edge.specs.declared.answers.DeAnswer.{DeAnswer}
 use Rattle.edge.specs.declared.flat.DeState.{DeState}
 use Rattle.files.specs.declared.file.DeFile.{DeFile}
@@ -18,7 +17,7 @@ answers_from f (q ∷ qs) = answer_to f q ∷ answers_from (leaves f q) qs
 
 -- the answer of a restore call that stores a state
 abbrev pub restored_file : DeFile
-restored_file = (settled_restore Taken).answer
+restored_file = (settled_restore (Ok tt)).answer
 
 -- f is saved to the lent file, in its first n bytes; these are restored to g
 pub record Survives (f : DeState) (file : List ℕ) (n : ℕ) (g : DeState) : Type 0 where

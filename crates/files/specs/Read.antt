@@ -1,11 +1,9 @@
 -- The read call in numbers.
-use Rattle.std.specs.Prelude.{ℕ, List, length}
+use Rattle.std.specs.Prelude.{ℕ, List, length, Result, Ok, Err}
 use Rattle.history.specs.declared.CompletedTrial.{CompletedTrial}
 use Rattle.metrics.specs.Export.{export_refusal_number, export_of, answer_of, left_in, entry_of}
 use Rattle.metrics.specs.declared.ExportRefusal.{ExportRefusal}
 use Rattle.metrics.specs.declared.ExportRefusal.TheVariants.{MalformedLine, ShortHistory}
-use Rattle.metrics.specs.declared.ReadAnswer.{ReadAnswer}
-use Rattle.metrics.specs.declared.ReadAnswer.TheVariants.{Count, Refused}
 use Rattle.files.specs.declared.read.DeRead.{DeRead}
 
 -- "14, the first malformed line, carries its number from 1"; 15 carries none
@@ -14,9 +12,9 @@ line_in (MalformedLine k) = k
 line_in ShortHistory = 0
 
 -- 1 read, with the count; 0 refused, by check 14 or 15
-abbrev pub read_in : ReadAnswer → DeRead
-read_in (Count n) = record { kind = 1; refusal = 0; count = n; line = 0 }
-read_in (Refused why) = record { kind = 0; refusal = export_refusal_number why; count = 0; line = line_in why }
+abbrev pub read_in : Result ℕ ExportRefusal → DeRead
+read_in (Ok n) = record { kind = 1; refusal = 0; count = n; line = 0 }
+read_in (Err why) = record { kind = 0; refusal = export_refusal_number why; count = 0; line = line_in why }
 
 -- what goes out, places being the length of the lent history
 abbrev pub read_answer : List ℕ → ℕ → DeRead

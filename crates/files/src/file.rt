@@ -6,7 +6,7 @@ ghost use Rattle.files.specs.File.{refused_file, saved_answer, save_answer, save
 use de::build::{DESamplerBuilder, new_state};
 use edge::flat::{DeState, open, open_dims};
 use edge::known::{known_dims, known_state};
-use saved::{FileRefusal, RestoreAnswer, Restored, SaveAnswer, restore, save};
+use saved::{FileRefusal, Restored, restore, save};
 
 // kind: 0 refused, by check 12 or 13; 1 saved, in a file of `length` bytes; 2 restored. Fields that a kind does not use are 0.
 #[repr(C)]
@@ -43,16 +43,16 @@ fn refused_file(why: FileRefusal) -> DeFile
     }
 }
 
-fn saved_answer(answer: SaveAnswer) -> DeFile
+fn saved_answer(answer: Result<usize, FileRefusal>) -> DeFile
     ensures { result ≡ saved_answer answer }
 {
     match answer {
-        SaveAnswer::Length(n) => DeFile {
+        Ok(n) => DeFile {
             kind: 1,
             refusal: 0,
             length: n as u64,
         },
-        SaveAnswer::Refused(why) => refused_file(why),
+        Err(why) => refused_file(why),
     }
 }
 
@@ -64,7 +64,7 @@ pub fn save_at(s: DeState, file: &mut [u8]) -> DeFile
     if known_state(s, known_dims(flat_dims)) {
         let dims = open_dims(flat_dims);
         let state = open(s, dims);
-        let answer = save(state, file);
+        let answer = save(&state, file);
         return saved_answer(answer);
     }
     refused_file(FileRefusal::BadContent)
@@ -81,11 +81,11 @@ pub fn read_file(file: &[u8]) -> Restored
 }
 
 // Only a file that is taken stores a state.
-pub fn settle_restored(answer: RestoreAnswer) -> SettledFile
+pub fn settle_restored(answer: Result<(), FileRefusal>) -> SettledFile
     ensures { result ≡ settled_restore answer }
 {
     match answer {
-        RestoreAnswer::Taken => {
+        Ok(()) => {
             let answer = DeFile {
                 kind: 2,
                 refusal: 0,
@@ -96,7 +96,7 @@ pub fn settle_restored(answer: RestoreAnswer) -> SettledFile
                 answer,
             }
         }
-        RestoreAnswer::Refused(why) => {
+        Err(why) => {
             let answer = refused_file(why);
             SettledFile {
                 stores: false,

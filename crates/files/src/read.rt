@@ -3,7 +3,7 @@ ghost use Rattle.std.specs.Prelude.{◌≡◌};
 ghost use Rattle.metrics.specs.Export.{export_refusal_number};
 ghost use Rattle.files.specs.Read.{line_in, read_in};
 
-use metrics::{ExportRefusal, ReadAnswer};
+use metrics::ExportRefusal;
 
 // kind: 0 refused, by check 14 with the malformed line's number, or by 15; 1 read, `count` entries. Fields that a kind does
 // not use are 0.
@@ -34,17 +34,17 @@ fn line_of(why: ExportRefusal) -> u64
     }
 }
 
-pub fn read_answer(answer: ReadAnswer) -> DeRead
+pub fn read_answer(answer: Result<usize, ExportRefusal>) -> DeRead
     ensures { result ≡ read_in answer }
 {
     match answer {
-        ReadAnswer::Count(n) => DeRead {
+        Ok(n) => DeRead {
             kind: 1,
             refusal: 0,
             count: n as u64,
             line: 0,
         },
-        ReadAnswer::Refused(why) => DeRead {
+        Err(why) => DeRead {
             kind: 0,
             refusal: export_number(why),
             count: 0,

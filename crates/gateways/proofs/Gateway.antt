@@ -1,11 +1,11 @@
 -- THE LIBRARY'S RESTARTS: the memory always holds, in numbers, a state that typed calls lead to (`Holds`); such a state can be saved and comes back, so the law of
 -- restarts (`one_list`) gives what the memory holds, and demand 3 of the library is a claim about it.
+use Rattle.std.specs.Prelude.{Some, None, Ok, is_ok}
 use Prim.Native.Nat.{ℕ}
 use mathlib.Core.Path.{◌≡◌, refl, sym, ap, ◌∙◌, subst}
 use mathlib.Core.Bool.{Bool, true, false, cond}
 use mathlib.Core.List.Memᴰ
 use mathlib.Core.List.{List, [], ◌∷◌}
-use mathlib.Core.Option.{some, none}
 use lib.Dec.{eqb}
 use lib.ListN.{length, take}
 use Rattle.evolution.specs.declared.Setup.{Setup}
@@ -14,7 +14,7 @@ use Rattle.ledger.specs.Claim.{start}
 use Rattle.ledger.specs.State as Plain
 use Rattle.ledger.specs.Words.{All}
 use Rattle.kernel.specs.De.{de}
-use Rattle.state.specs.Setup.{setup_verdict, is_valid}
+use Rattle.state.specs.Setup.{setup_verdict}
 use Rattle.state.specs.declared.State.{State}
 use Rattle.de.specs.Build.{fresh_state}
 use Rattle.de.specs.Program.{ran}
@@ -24,7 +24,6 @@ use Rattle.saved.specs.Restore.{taken}
 use Rattle.saved.specs.Save.{save_of, saved_in}
 use Rattle.saved.specs.declared.FileRefusal.TheVariants.{BadContent}
 use Rattle.saved.specs.declared.Restored.{Restored}
-use Rattle.saved.specs.declared.SaveAnswer.TheVariants.{Length}
 use Rattle.saved.proofs.Contracts.{bytes-written}
 use Rattle.saved.proofs.RoundTrip.{Savable, restored-save}
 use Rattle.edge.specs.declared.flat.DeSetup.{DeSetup}
@@ -45,20 +44,20 @@ use Rattle.gateways.specs.Gateway.{saved_file, restored_to, memory_after, GoodEv
 -- ---- a memory that holds a state that can be saved
 
 module _ (s : State) (v : Savable s) where
-  written : (lent : List ℕ) → Room lent → saved_file (flat_of s) lent ≡ some (file_of s)
+  written : (lent : List ℕ) → Room lent → saved_file (flat_of s) lent ≡ Some (file_of s)
   unfolding save_answer save_file
   written lent room =
       let n = length (file_of s) in
-      let answer : save_answer (flat_of s) (length lent) ≡ saved_answer (Length n) =
+      let answer : save_answer (flat_of s) (length lent) ≡ saved_answer (Ok n) =
       (λ i. cond (flat-known s i) (saved_answer (save_of (lossless s i) (length lent))) (refused_file BadContent)) ∙ ap saved_answer (saved-length lent room s v) in
       let file : save_file (flat_of s) lent ≡ saved_in s lent = λ i. cond (flat-known s i) (saved_in (lossless s i) lent) lent in
-      (λ i. cond (eqb (answer i).kind 1) (some (take (answer i).length (file i))) none) ∙ ap some (bytes-written s lent n (saved-length lent room s v))
+      (λ i. cond (eqb (answer i).kind 1) (Some (take (answer i).length (file i))) None) ∙ ap Some (bytes-written s lent n (saved-length lent room s v))
 
-  read : (g : DeState) → restored_to g (file_of s) ≡ some (flat_of s)
+  read : (g : DeState) → restored_to g (file_of s) ≡ Some (flat_of s)
   unfolding restore_answer restore_state read_of
   read g =
       let r : read_of (file_of s) ≡ taken s = restored-save s v nothing in
-      ap (λ (z : Restored). cond (eqb (settled_restore z.answer).answer.kind 2) (some (cond (settled_restore z.answer).stores (flat_of z.state) g)) none) r
+      ap (λ (z : Restored). cond (eqb (settled_restore z.answer).answer.kind 2) (Some (cond (settled_restore z.answer).stores (flat_of z.state) g)) None) r
 
 -- ---- what a call leaves is what the call that it stands for leaves
 
@@ -76,7 +75,7 @@ meant-led g (q ∷ qs) = go (is_known q) refl (λ m. meant-led m qs)
         ∙ rest (leaves g (spelled (meant q)))
     go false k rest = ap (λ (m : DeState). led_to DeState Sent leaves m qs) (unknown-state g q.history q.call k) ∙ rest g
 
-module _ (f : DeState) (u : DeSetup) (known : known_setup u ≡ true) (ok : is_valid (setup_verdict (setup_of u)) ≡ true) (typed : TypedSetup (setup_of u)) where
+module _ (f : DeState) (u : DeSetup) (known : known_setup u ≡ true) (ok : is_ok (setup_verdict (setup_of u)) ≡ true) (typed : TypedSetup (setup_of u)) where
   abbrev S : Setup
   S = setup_of u
 
@@ -112,11 +111,11 @@ module _ (f : DeState) (u : DeSetup) (known : known_setup u ≡ true) (ok : is_v
   led qs = led_to DeState Sent leaves (new_state f u) qs
 
   back : (qs : List Sent) → All (λ (q : Sent). TypedCall (meant q)) qs → (lent : List ℕ) → Room lent
-      → (file : List ℕ) × (saved_file (led qs) lent ≡ some file) × ((g : DeState) → restored_to g file ≡ some (led qs))
+      → (file : List ℕ) × (saved_file (led qs) lent ≡ Some file) × ((g : DeState) → restored_to g file ≡ Some (led qs))
   back qs t lent room =
       let h = led-holds (new_state f u) qs new-holds t in
       let v = reached-savable S ok typed h.state h.reached in
-      (file_of h.state, ap (λ (m : DeState). saved_file m lent) h.is ∙ written h.state v lent room, λ g. read h.state v g ∙ ap some (sym h.is))
+      (file_of h.state, ap (λ (m : DeState). saved_file m lent) h.is ∙ written h.state v lent room, λ g. read h.state v g ∙ ap Some (sym h.is))
 
   -- THE THEOREM
   pub library-one-list : (es : List (Event DeState Sent)) → All GoodEvent es → OneList f u es

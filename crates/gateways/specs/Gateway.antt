@@ -1,7 +1,6 @@
 -- "A list of calls that passes through a save and its own restore counts as one list, for share and for least result alike", of the library: a gateway's program
 -- makes sample calls in its memory, saves to memory that it lends, and restores any of its files after a reboot.
-use Rattle.std.specs.Prelude.{ℕ, ◌≡◌, cond, List, eqb, length, take}
-use Rattle.std.proofs.Math.Option.{Option, none, some}
+use Rattle.std.specs.Prelude.{ℕ, ◌≡◌, cond, List, eqb, length, take, Option, Some, None}
 use Rattle.ledger.specs.Claim.{Claim, start, moments_from, end_from}
 use Rattle.kernel.specs.De.{de}
 use Rattle.state.specs.View.{view}
@@ -18,11 +17,11 @@ use Rattle.restarts.specs.Restart.{Event, call, save, reboot, led_to, state_afte
 abbrev pub saved_file : DeState → List ℕ → Option (List ℕ)
 saved_file g lent =
     let answer = save_answer g (length lent) in
-    cond (eqb answer.kind 1) (some (take answer.length (save_file g lent))) none
+    cond (eqb answer.kind 1) (Some (take answer.length (save_file g lent))) None
 
 -- what the restore call leaves in the memory, where it answers 2, restored
 abbrev pub restored_to : DeState → List ℕ → Option DeState
-restored_to g file = cond (eqb (restore_answer file).kind 2) (some (restore_state g file)) none
+restored_to g file = cond (eqb (restore_answer file).kind 2) (Some (restore_state g file)) None
 
 -- The memory after events, f being what it held before the set-up call. A reboot leaves anything in it; where no file is restored, the set-up call is made
 -- again.

@@ -9,7 +9,7 @@ use crate::numbered::{
     answer_marks, candidate_marks, completed_marks, distribution_marks, file_marks, internal_marks,
     look_marks, member_marks, progress_marks, read_marks, setting_marks, setup_marks,
 };
-use candidates::{Candidate, blank_candidate};
+use candidates::Candidate;
 use edge::answers::{DeAnswer, DeCall};
 use edge::flat::{DeDistribution, DeSetup, DeState};
 use edge::internal::{DeInternal, DeSetting};
@@ -72,7 +72,7 @@ fn marked_dims() -> [DeDistribution; 16]
 fn marked_candidates() -> [Candidate; 224]
     ensures { result ≡ marked_candidates }
 {
-    let blank = blank_candidate();
+    let blank = Candidate::blank();
     let mut candidates = [blank; 224];
     candidates[0] = candidate_marks();
     candidates[223] = candidate_marks();

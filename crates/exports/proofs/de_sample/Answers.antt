@@ -3,7 +3,7 @@
 use mathlib.Core.Path.{◌≡◌, ap, ◌∙◌}
 use mathlib.Core.List.{List}
 use Rattle.history.specs.declared.CompletedTrial.{CompletedTrial}
-use Rattle.ledger.specs.State.{Result}
+use Rattle.ledger.specs.State.{Returned}
 use Rattle.kernel.specs.De.{de}
 use Rattle.state.specs.declared.State.{State}
 use Rattle.de.specs.Answer.{plain_answer, numbered}
@@ -44,6 +44,6 @@ returns c =
     let stores = ap (λ (z : Settled). z.stores) p in
     let made = flat_of (sampled_from f call ys).state in
     elim c.if-o.branch [
-      | then-o w ↦ (answer, stored made f w.if-o.true stores (w.state-is ∙ w.flatten.ensures ∙ ap (λ (z : Result de State). flat_of z.state) m))
+      | then-o w ↦ (answer, stored made f w.if-o.true stores (w.state-is ∙ w.flatten.ensures ∙ ap (λ (z : Returned de State). flat_of z.state) m))
       | else-o w ↦ (answer, kept made f w.if-o.false stores w.state-is)
     ]

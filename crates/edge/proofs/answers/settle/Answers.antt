@@ -11,10 +11,10 @@ pub returns-then-not-known_state : goal.returns-then-not-known_state
 unfolding settled_of
 returns-then-not-known_state c = rw (passed c.args.known_call c.if-not-known_call.false-raw, failed c.args.known_state c.if-not-known_state.true-raw, c.bare_answer-a-then-not-known_state.ensures)
 
-pub returns-in-Setting : goal.returns-in-Setting
+pub returns-in-Ok : goal.returns-in-Ok
 unfolding settled_of
-returns-in-Setting c = rw (passed c.args.known_call c.if-not-known_call.false-raw, passed c.args.known_state c.if-not-known_state.false-raw, c.in-Setting.is, c.setting_answer-a.ensures)
+returns-in-Ok c = rw (passed c.args.known_call c.if-not-known_call.false-raw, passed c.args.known_state c.if-not-known_state.false-raw, c.in-Ok.is, c.setting_answer-a.ensures)
 
-pub returns-in-Refused : goal.returns-in-Refused
+pub returns-in-Err : goal.returns-in-Err
 unfolding settled_of
-returns-in-Refused c = rw (passed c.args.known_call c.if-not-known_call.false-raw, passed c.args.known_state c.if-not-known_state.false-raw, c.in-Refused.is, c.bare_answer-a-in-Refused.ensures, c.refusal_number.ensures)
+returns-in-Err c = rw (passed c.args.known_call c.if-not-known_call.false-raw, passed c.args.known_state c.if-not-known_state.false-raw, c.in-Err.is, c.bare_answer-a-in-Err.ensures, c.refusal_number.ensures)

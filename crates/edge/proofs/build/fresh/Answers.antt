@@ -8,4 +8,4 @@ use Rattle.edge.proofs.build.fresh.Goals as goal
 
 pub returns : goal.returns
 unfolding fresh_flat fresh_state laid fresh flat_of flat_distribution setup_of
-returns c = rw (c.flatten_setup-flat_setup.ensures, c.open_setup-s.ensures, c.flatten_choice-d.ensures, c.blank_candidate-c.ensures, c.blank_member-m.ensures)
+returns c = rw (c.flatten_setup-flat_setup.ensures, c.open_setup-s.ensures, c.flatten_choice-d.ensures, c.blank-c.ensures, c.blank_member-m.ensures)

@@ -4,4 +4,4 @@ use Rattle.layout.proofs.marks.marked_candidates.Goals as goal
 
 pub returns : goal.returns
 unfolding marked_candidates
-returns c = λ i. ends 224 (c.blank_candidate-blank.ensures i) 223 (c.candidate_marks.ensures i) (c.candidate_marks-2.ensures i)
+returns c = λ i. ends 224 (c.blank-blank.ensures i) 223 (c.candidate_marks.ensures i) (c.candidate_marks-2.ensures i)
