@@ -1,4 +1,3 @@
 pub mod History
 pub mod Kept
 pub mod Hearing
-pub mod Reading

@@ -1,138 +1,67 @@
-// A reader, a line at a time.
-ghost use Rattle.lines.specs.Reading.{ShortLine};
+// A reader, a line at a time. `BufReader` would keep its buffer on the heap, which this program does without.
+ghost use Rattle.std.specs.Prelude.{◌≡◌, ◌≤◌, IfOk, IfSome, length};
 
-use std::io::Read;
+use crate::Stop;
+use std::io::{self, Read};
 
-// The bytes of the input buffer from `at` to `end` are still to be taken; `line` lines have begun.
-#[derive(Clone, Copy)]
-pub struct Cursor {
-    pub at: usize,
-    pub end: usize,
+// The longest line, its line feed left out.
+const LONGEST: usize = 512;
+
+// The bytes of the input from `at` to `end` are still to be taken.
+#[derive(Drop)]
+pub struct Reader<R> {
+    from: R,
+    input: [u8; 65536],
+    at: usize,
+    end: usize,
+    text: [u8; LONGEST],
+    // So many lines have begun.
     pub line: u64,
+    ghost in_order: { at ≤ end },
+    ghost in_bounds: { end ≤ 65536 },
 }
 
-#[derive(Clone, Copy)]
-pub enum Byte {
-    Is(u8),
-    // The input has ended.
-    End,
-    // A read failed.
-    Failed,
-}
-
-#[derive(Clone, Copy)]
-pub struct Taken {
-    pub byte: Byte,
-    pub cursor: Cursor,
-}
-
-#[derive(Clone, Copy)]
-pub enum Line {
-    // A line of so many bytes, its line feed left out.
-    Whole(usize),
-    // More than 512 bytes, or no line feed at the input's end.
-    Malformed,
-    // No further line.
-    End,
-    // A read failed.
-    Failed,
-}
-
-#[derive(Clone, Copy)]
-pub struct Fetched {
-    pub line: Line,
-    pub cursor: Cursor,
-}
-
-// The next byte of the buffer, where one is left.
-fn from_buffer(input: &[u8; 65536], cursor: Cursor) -> Taken {
-    let mut c = cursor;
-    let at = c.at;
-    if at < 65536 {
-        c.at = at + 1;
-        return Taken {
-            byte: Byte::Is(input[at]),
-            cursor: c,
-        };
-    }
-    Taken {
-        byte: Byte::Failed,
-        cursor: c,
-    }
-}
-
-// The next byte, after a read where the buffer is used up.
-fn next_byte<R: Read>(from: &mut R, input: &mut [u8; 65536], cursor: Cursor) -> Taken {
-    let mut c = cursor;
-    if c.at < c.end {
-        return from_buffer(input, c);
-    }
-    let Ok(got) = from.read(input) else {
-        return Taken {
-            byte: Byte::Failed,
-            cursor: c,
-        };
-    };
-    if got == 0 {
-        return Taken {
-            byte: Byte::End,
-            cursor: c,
-        };
-    }
-    c.at = 0;
-    c.end = got;
-    from_buffer(input, c)
-}
-
-// What a line of which n bytes came is where no further byte comes.
-fn cut_short(byte: Byte, n: usize) -> Line
-    ensures { ShortLine result }
-{
-    if let Byte::Failed = byte {
-        return Line::Failed;
-    }
-    if n == 0 { Line::End } else { Line::Malformed }
-}
-
-fn counted(n: u64) -> u64 {
-    if n < u64::MAX { n + 1 } else { n }
-}
-
-// The next line, put at the start of `line`.
-pub fn next_line<R: Read>(
-    from: &mut R,
-    input: &mut [u8; 65536],
-    line: &mut [u8; 512],
-    cursor: Cursor,
-) -> Fetched
-    ensures { ShortLine result.line }
-{
-    let mut c = cursor;
-    c.line = counted(c.line);
-    let mut n: usize = 0;
-    while n <= 512 {
-        let t = next_byte(from, input, c);
-        c = t.cursor;
-        let byte = t.byte;
-        let Byte::Is(b) = byte else {
-            return Fetched {
-                line: cut_short(byte, n),
-                cursor: c,
-            };
-        };
-        if b == b'\n' {
-            return Fetched {
-                line: Line::Whole(n),
-                cursor: c,
-            };
+impl<R: Read> Reader<R> {
+    pub fn new(from: R) -> Self
+        ensures { result.line ≡ 0 }
+    {
+        Reader {
+            from,
+            input: [0; 65536],
+            at: 0,
+            end: 0,
+            text: [0; LONGEST],
+            line: 0,
         }
-        if n < 512 {
-            line[n] = b;
-        }
-        n += 1;
     }
-    Fetched {
-        line: Line::Malformed,
-        cursor: c,
+
+    // The next byte, after a read where the input is used up; none where it has ended.
+    fn next_byte(&mut self) -> io::Result<Option<u8>> {
+        if self.at == self.end {
+            self.at = 0;
+            self.end = 0;
+            self.end = self.from.read(&mut self.input)?;
+        }
+        let byte = self.input[self.at..self.end].first().copied();
+        if byte.is_some() {
+            self.at += 1;
+        }
+        Ok(byte)
+    }
+
+    // The next line; none where the input has ended. A last line with no line feed is malformed.
+    pub fn next_line(&mut self) -> Result<Option<&[u8]>, Stop>
+        ensures { IfOk result (λ next. IfSome next (λ line. length line.now ≤ 512)) }
+    {
+        self.line = self.line.saturating_add(1);
+        for n in 0..=LONGEST {
+            match self.next_byte().map_err(|_| Stop::Unread)? {
+                Some(b'\n') => return Ok(Some(&self.text[..n])),
+                Some(byte) if n < LONGEST => self.text[n] = byte,
+                None if n == 0 => return Ok(None),
+                _ => break,
+            }
+        }
+        Err(Stop::Malformed)
     }
 }

@@ -1,5 +1,5 @@
 -- HEX: a word of hexadecimal digits, and the bytes that it puts into a file.
-use Rattle.std.specs.Prelude.{ℕ, suc, ◌+◌, ◌*◌, ◌%◌, Bool, ◌&&◌, cond, List, [], ◌∷◌, ltb, leb, eqb, length, set}
+use Rattle.std.specs.Prelude.{ℕ, suc, ◌+◌, ◌*◌, ◌%◌, Bool, ◌&&◌, cond, List, [], ◌∷◌, leb, eqb, length, set, unwrap_or}
 use Rattle.numbers.specs.Numbers.{digit_of, all_digits}
 use Rattle.script.specs.Words.{word_at}
 
@@ -9,7 +9,7 @@ is_hex w = leb 2 (length w) && eqb (length w % 2) 0 && all_digits 16 w
 
 -- the value of a digit; 0 of any other byte, which HEX does not have
 unfoldable pub hex_digit : ℕ → ℕ
-hex_digit b = cond (ltb (digit_of b) 16) (digit_of b) 0
+hex_digit b = unwrap_or (digit_of b) 0
 
 -- the bytes that hexadecimal digits are, two digits a byte, the high one first
 unfoldable pub hex_of : List ℕ → List ℕ

@@ -1,30 +1,31 @@
-// What a line says: a function for each number of words that a rule has.
-ghost use Rattle.std.specs.Prelude.{◌≡◌};
-ghost use Rattle.script.specs.Words.{word_at};
-ghost use Rattle.script.specs.Commands.{new_line, bare_line, file_line, tell_line, put_line, pair_line, sample_float, sample_int, range_line, choice_line, command_of};
+// What a line says.
+ghost use Rattle.std.specs.Prelude.{◌≡◌, map};
+ghost use Rattle.script.specs.Commands.{new_line, bare_line, tell_line, file_line, put_line, pair_line, sample_float, sample_int, range_line, choice_line, line_of, command_of};
 
-use crate::fields::{
-    FloatStepWord, IntStepWord, ScaleWord, SizeWord, StrategyWord, double_at, float_step_at,
-    int_at, int_step_at, key_is, scale_at, size_at, strategy_at, whole_at,
-};
-use crate::hex::hex_at;
-use crate::words::count;
+use crate::fields::{optional, scale, strategy};
+use crate::hex::is_hex;
+use crate::words::{count, first_words};
 use distribution::{CategoricalDistribution, Distribution, FloatDistribution, IntDistribution};
 use evolution::Setup;
-use numbers::{DoubleWord, IntWord, WholeWord};
+use numbers::{read_double, read_int, read_whole};
 
 #[derive(Clone, Copy)]
 pub enum Command {
     // An empty line, or a comment: passed over.
     Skip,
-    // A line that breaks the rules.
-    Malformed,
-    New(Setup),
     Clear,
-    Tell {
-        number: u64,
-        value: f64,
-    },
+    Tell { number: u64, value: f64 },
+    // So many zero bytes.
+    File(u64),
+    // The place of the first byte; the bytes are in the line (`put_bytes`).
+    Put(u64),
+    Ask(Question),
+}
+
+// What is asked of the sampler or of the kept file, and answered.
+#[derive(Clone, Copy)]
+pub enum Question {
+    New(Setup),
     Sample {
         number: u64,
         distribution: Distribution,
@@ -34,247 +35,179 @@ pub enum Command {
     Save,
     Restore,
     Bytes,
-    // So many zero bytes.
-    File(u64),
-    // The place of the first byte; the bytes are in the line (`put_bytes`).
-    Put(u64),
 }
 
 // `new F CR STRATEGY SIZE SEED`.
-fn new(line: &[u8]) -> Command
-    ensures { let w = word_at line.now in result ≡ new_line (w 0) (w 1) (w 2) (w 3) (w 4) (w 5) }
+#[tactic(auto, unfolding(crate::specs::Commands::new_line))]
+fn new(key: &[u8], f: &[u8], cr: &[u8], by: &[u8], size: &[u8], seed: &[u8]) -> Option<Command>
+    ensures { result ≡ new_line key.now f.now cr.now by.now size.now seed.now }
 {
-    if key_is(line, 0, b"new") {
-        let DoubleWord::Is(mutation_factor) = double_at(line, 1) else {
-            return Command::Malformed;
-        };
-        let DoubleWord::Is(crossover_rate) = double_at(line, 2) else {
-            return Command::Malformed;
-        };
-        let StrategyWord::Is(strategy) = strategy_at(line, 3) else {
-            return Command::Malformed;
-        };
-        let SizeWord::Is(population_size) = size_at(line, 4) else {
-            return Command::Malformed;
-        };
-        let WholeWord::Is(seed) = whole_at(line, 5) else {
-            return Command::Malformed;
-        };
-        return Command::New(Setup {
-            mutation_factor,
-            crossover_rate,
-            strategy,
-            population_size,
-            seed,
-        });
+    match key {
+        b"new" => Some(Command::Ask(Question::New(Setup {
+            mutation_factor: read_double(f)?,
+            crossover_rate: read_double(cr)?,
+            strategy: strategy(by)?,
+            population_size: optional(size, read_whole)?,
+            seed: read_whole(seed)?,
+        }))),
+        _ => None,
     }
-    Command::Malformed
 }
 
 // `clear`, `look`, `state`, `save`, `restore` and `bytes`.
-fn bare(line: &[u8]) -> Command
-    ensures { result ≡ bare_line (word_at line.now 0) }
+#[tactic(auto, unfolding(crate::specs::Commands::bare_line))]
+fn bare(key: &[u8]) -> Option<Command>
+    ensures { result ≡ bare_line key.now }
 {
-    if key_is(line, 0, b"clear") {
-        return Command::Clear;
+    match key {
+        b"clear" => Some(Command::Clear),
+        b"look" => Some(Command::Ask(Question::Look)),
+        b"state" => Some(Command::Ask(Question::State)),
+        b"save" => Some(Command::Ask(Question::Save)),
+        b"restore" => Some(Command::Ask(Question::Restore)),
+        b"bytes" => Some(Command::Ask(Question::Bytes)),
+        _ => None,
     }
-    if key_is(line, 0, b"look") {
-        return Command::Look;
-    }
-    if key_is(line, 0, b"state") {
-        return Command::State;
-    }
-    if key_is(line, 0, b"save") {
-        return Command::Save;
-    }
-    if key_is(line, 0, b"restore") {
-        return Command::Restore;
-    }
-    if key_is(line, 0, b"bytes") {
-        return Command::Bytes;
-    }
-    Command::Malformed
 }
 
 // `file LENGTH`.
-fn file(line: &[u8]) -> Command
-    ensures { let w = word_at line.now in result ≡ file_line (w 0) (w 1) }
+#[tactic(auto, unfolding(crate::specs::Commands::file_line))]
+fn file(key: &[u8], length: &[u8]) -> Option<Command>
+    ensures { result ≡ file_line key.now length.now }
 {
-    if key_is(line, 0, b"file") {
-        let WholeWord::Is(length) = whole_at(line, 1) else {
-            return Command::Malformed;
-        };
-        return Command::File(length);
+    match key {
+        b"file" => read_whole(length).map(Command::File),
+        _ => None,
     }
-    Command::Malformed
 }
 
 // `tell TRIAL VALUE`, its keyword seen.
-fn tell(line: &[u8]) -> Command
-    ensures { let w = word_at line.now in result ≡ tell_line (w 1) (w 2) }
+#[tactic(auto, unfolding(crate::specs::Commands::tell_line))]
+fn tell(trial: &[u8], value: &[u8]) -> Option<Command>
+    ensures { result ≡ tell_line trial.now value.now }
 {
-    let WholeWord::Is(number) = whole_at(line, 1) else {
-        return Command::Malformed;
-    };
-    let DoubleWord::Is(value) = double_at(line, 2) else {
-        return Command::Malformed;
-    };
-    Command::Tell { number, value }
+    Some(Command::Tell {
+        number: read_whole(trial)?,
+        value: read_double(value)?,
+    })
 }
 
 // `put OFFSET HEX`, its keyword seen.
-fn put(line: &[u8]) -> Command
-    ensures { let w = word_at line.now in result ≡ put_line (w 1) (w 2) }
+#[tactic(auto, unfolding(crate::specs::Commands::put_line))]
+fn put(offset: &[u8], hex: &[u8]) -> Option<Command>
+    ensures { result ≡ put_line offset.now hex.now }
 {
-    let WholeWord::Is(offset) = whole_at(line, 1) else {
-        return Command::Malformed;
-    };
-    if hex_at(line, 2) {
-        return Command::Put(offset);
-    }
-    Command::Malformed
+    let at = read_whole(offset)?;
+    is_hex(hex).then_some(Command::Put(at))
 }
 
 // A line of three words.
-fn pair(line: &[u8]) -> Command
-    ensures { let w = word_at line.now in result ≡ pair_line (w 0) (w 1) (w 2) }
+#[tactic(auto, unfolding(crate::specs::Commands::pair_line))]
+fn pair(key: &[u8], a: &[u8], b: &[u8]) -> Option<Command>
+    ensures { result ≡ pair_line key.now a.now b.now }
 {
-    if key_is(line, 0, b"tell") {
-        return tell(line);
+    match key {
+        b"tell" => tell(a, b),
+        b"put" => put(a, b),
+        _ => None,
     }
-    if key_is(line, 0, b"put") {
-        return put(line);
-    }
-    Command::Malformed
 }
 
 // `sample TRIAL float LOW HIGH SCALE STEP`, its two keywords seen.
-fn sample_float(line: &[u8]) -> Command
-    ensures { let w = word_at line.now in result ≡ sample_float (w 1) (w 3) (w 4) (w 5) (w 6) }
+#[tactic(auto, unfolding(crate::specs::Commands::sample_float))]
+fn sample_float(trial: &[u8], low: &[u8], high: &[u8], log: &[u8], step: &[u8]) -> Option<Command>
+    ensures { result ≡ sample_float trial.now low.now high.now log.now step.now }
 {
-    let WholeWord::Is(number) = whole_at(line, 1) else {
-        return Command::Malformed;
-    };
-    let DoubleWord::Is(low) = double_at(line, 3) else {
-        return Command::Malformed;
-    };
-    let DoubleWord::Is(high) = double_at(line, 4) else {
-        return Command::Malformed;
-    };
-    let ScaleWord::Is(log_scale) = scale_at(line, 5) else {
-        return Command::Malformed;
-    };
-    let FloatStepWord::Is(step) = float_step_at(line, 6) else {
-        return Command::Malformed;
-    };
-    let distribution = Distribution::Float(FloatDistribution {
-        low,
-        high,
-        log_scale,
-        step,
-    });
-    Command::Sample {
-        number,
-        distribution,
-    }
+    Some(Command::Ask(Question::Sample {
+        number: read_whole(trial)?,
+        distribution: Distribution::Float(FloatDistribution {
+            low: read_double(low)?,
+            high: read_double(high)?,
+            log_scale: scale(log)?,
+            step: optional(step, read_double)?,
+        }),
+    }))
 }
 
 // `sample TRIAL int LOW HIGH SCALE STEP`, its two keywords seen.
-fn sample_int(line: &[u8]) -> Command
-    ensures { let w = word_at line.now in result ≡ sample_int (w 1) (w 3) (w 4) (w 5) (w 6) }
+#[tactic(auto, unfolding(crate::specs::Commands::sample_int))]
+fn sample_int(trial: &[u8], low: &[u8], high: &[u8], log: &[u8], step: &[u8]) -> Option<Command>
+    ensures { result ≡ sample_int trial.now low.now high.now log.now step.now }
 {
-    let WholeWord::Is(number) = whole_at(line, 1) else {
-        return Command::Malformed;
-    };
-    let IntWord::Is(low) = int_at(line, 3) else {
-        return Command::Malformed;
-    };
-    let IntWord::Is(high) = int_at(line, 4) else {
-        return Command::Malformed;
-    };
-    let ScaleWord::Is(log_scale) = scale_at(line, 5) else {
-        return Command::Malformed;
-    };
-    let IntStepWord::Is(step) = int_step_at(line, 6) else {
-        return Command::Malformed;
-    };
-    let distribution = Distribution::Int(IntDistribution {
-        low,
-        high,
-        log_scale,
-        step,
-    });
-    Command::Sample {
-        number,
-        distribution,
-    }
+    Some(Command::Ask(Question::Sample {
+        number: read_whole(trial)?,
+        distribution: Distribution::Int(IntDistribution {
+            low: read_int(low)?,
+            high: read_int(high)?,
+            log_scale: scale(log)?,
+            step: optional(step, read_int)?,
+        }),
+    }))
 }
 
-// A `sample` line of seven words.
-fn range(line: &[u8]) -> Command
-    ensures { let w = word_at line.now in result ≡ range_line (w 0) (w 1) (w 2) (w 3) (w 4) (w 5) (w 6) }
+// A line of seven words.
+#[tactic(auto, unfolding(crate::specs::Commands::range_line))]
+fn range(
+    key: &[u8],
+    trial: &[u8],
+    kind: &[u8],
+    low: &[u8],
+    high: &[u8],
+    log: &[u8],
+    step: &[u8],
+) -> Option<Command>
+    ensures { result ≡ range_line key.now trial.now kind.now low.now high.now log.now step.now }
 {
-    if key_is(line, 0, b"sample") {
-        if key_is(line, 2, b"float") {
-            return sample_float(line);
-        }
-        if key_is(line, 2, b"int") {
-            return sample_int(line);
-        }
+    if key != b"sample".as_slice() {
+        return None;
     }
-    Command::Malformed
+    match kind {
+        b"float" => sample_float(trial, low, high, log, step),
+        b"int" => sample_int(trial, low, high, log, step),
+        _ => None,
+    }
 }
 
 // `sample TRIAL choice COUNT`.
-fn choice(line: &[u8]) -> Command
-    ensures { let w = word_at line.now in result ≡ choice_line (w 0) (w 1) (w 2) (w 3) }
+#[tactic(auto, unfolding(crate::specs::Commands::choice_line))]
+fn choice(key: &[u8], trial: &[u8], kind: &[u8], count: &[u8]) -> Option<Command>
+    ensures { result ≡ choice_line key.now trial.now kind.now count.now }
 {
-    if key_is(line, 0, b"sample") {
-        if key_is(line, 2, b"choice") {
-            let WholeWord::Is(number) = whole_at(line, 1) else {
-                return Command::Malformed;
-            };
-            let WholeWord::Is(n_choices) = whole_at(line, 3) else {
-                return Command::Malformed;
-            };
-            let distribution = Distribution::Categorical(CategoricalDistribution { n_choices });
-            return Command::Sample {
-                number,
-                distribution,
-            };
-        }
+    if key != b"sample".as_slice() || kind != b"choice".as_slice() {
+        return None;
     }
-    Command::Malformed
+    Some(Command::Ask(Question::Sample {
+        number: read_whole(trial)?,
+        distribution: Distribution::Categorical(CategoricalDistribution {
+            n_choices: read_whole(count)?,
+        }),
+    }))
 }
 
-// What a line says, its line feed left out.
-pub fn parse(line: &[u8]) -> Command
+// The rule for so many words.
+#[tactic(auto, unfolding(crate::specs::Commands::line_of))]
+fn rule(words: &[&[u8]]) -> Option<Command>
+    ensures { result ≡ line_of (map (λ w. w.now) words.now) }
+{
+    match *words {
+        [key] => bare(key),
+        [key, length] => file(key, length),
+        [key, a, b] => pair(key, a, b),
+        [key, trial, kind, count] => choice(key, trial, kind, count),
+        [key, f, cr, by, size, seed] => new(key, f, cr, by, size, seed),
+        [key, trial, kind, low, high, log, step] => {
+            range(key, trial, kind, low, high, log, step)
+        }
+        _ => None,
+    }
+}
+
+// What a line says, its line feed left out; none where it breaks the rules.
+pub fn parse(line: &[u8]) -> Option<Command>
     ensures { result ≡ command_of line.now }
 {
-    if line.len() == 0 {
-        return Command::Skip;
+    if line.is_empty() || line[0] == b'#' {
+        return Some(Command::Skip);
     }
-    if line[0] == b'#' {
-        return Command::Skip;
-    }
-    let n = count(line);
-    if n == 1 {
-        return bare(line);
-    }
-    if n == 2 {
-        return file(line);
-    }
-    if n == 3 {
-        return pair(line);
-    }
-    if n == 4 {
-        return choice(line);
-    }
-    if n == 6 {
-        return new(line);
-    }
-    if n == 7 {
-        return range(line);
-    }
-    Command::Malformed
+    rule(first_words(line).get(..count(line))?)
 }

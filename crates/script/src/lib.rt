@@ -6,5 +6,5 @@ mod fields;
 mod hex;
 mod words;
 
-pub use command::{Command, parse};
+pub use command::{Command, Question, parse};
 pub use hex::put_bytes;

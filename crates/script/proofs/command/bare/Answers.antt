@@ -1,95 +1,11 @@
--- The tests are the definition's, in its order.
+-- The longest keyword, whose bytes are compared one by one.
+use Rattle.std.proofs.Common.{◌≡◌, codes, arith, rules}
+use Rattle.std.proofs.lemmas.Slice.Eq.{text_from_reads}
 use Rattle.script.specs.Commands.{bare_line}
 use Rattle.script.proofs.command.bare.Goals as goal
 
-pub returns-then-key_is : goal.returns-then-key_is
+pub returns-in-restore : goal.returns-in-restore
 unfolding bare_line
-returns-then-key_is c = rw (← c.key_is.ensures, c.if-key_is.true)
-
-pub returns-then-key_is-2 : goal.returns-then-key_is-2
-unfolding bare_line
-returns-then-key_is-2 c =
-    rw (
-      ← c.key_is.ensures,
-      c.if-key_is.false,
-      ← c.key_is-2.ensures,
-      c.if-key_is-2.true,
-    )
-
-pub returns-then-key_is-3 : goal.returns-then-key_is-3
-unfolding bare_line
-returns-then-key_is-3 c =
-    rw (
-      ← c.key_is.ensures,
-      c.if-key_is.false,
-      ← c.key_is-2.ensures,
-      c.if-key_is-2.false,
-      ← c.key_is-3.ensures,
-      c.if-key_is-3.true,
-    )
-
-pub returns-then-key_is-4 : goal.returns-then-key_is-4
-unfolding bare_line
-returns-then-key_is-4 c =
-    rw (
-      ← c.key_is.ensures,
-      c.if-key_is.false,
-      ← c.key_is-2.ensures,
-      c.if-key_is-2.false,
-      ← c.key_is-3.ensures,
-      c.if-key_is-3.false,
-      ← c.key_is-4.ensures,
-      c.if-key_is-4.true,
-    )
-
-pub returns-then-key_is-5 : goal.returns-then-key_is-5
-unfolding bare_line
-returns-then-key_is-5 c =
-    rw (
-      ← c.key_is.ensures,
-      c.if-key_is.false,
-      ← c.key_is-2.ensures,
-      c.if-key_is-2.false,
-      ← c.key_is-3.ensures,
-      c.if-key_is-3.false,
-      ← c.key_is-4.ensures,
-      c.if-key_is-4.false,
-      ← c.key_is-5.ensures,
-      c.if-key_is-5.true,
-    )
-
-pub returns-then-key_is-6 : goal.returns-then-key_is-6
-unfolding bare_line
-returns-then-key_is-6 c =
-    rw (
-      ← c.key_is.ensures,
-      c.if-key_is.false,
-      ← c.key_is-2.ensures,
-      c.if-key_is-2.false,
-      ← c.key_is-3.ensures,
-      c.if-key_is-3.false,
-      ← c.key_is-4.ensures,
-      c.if-key_is-4.false,
-      ← c.key_is-5.ensures,
-      c.if-key_is-5.false,
-      ← c.key_is-6.ensures,
-      c.if-key_is-6.true,
-    )
-
-pub returns : goal.returns
-unfolding bare_line
-returns c =
-    rw (
-      ← c.key_is.ensures,
-      c.if-key_is.false,
-      ← c.key_is-2.ensures,
-      c.if-key_is-2.false,
-      ← c.key_is-3.ensures,
-      c.if-key_is-3.false,
-      ← c.key_is-4.ensures,
-      c.if-key_is-4.false,
-      ← c.key_is-5.ensures,
-      c.if-key_is-5.false,
-      ← c.key_is-6.ensures,
-      c.if-key_is-6.false,
-    )
+returns-in-restore c =
+    let e : c.args.key.now ≡ codes "restore" = text_from_reads _ _ (omega arith) (search rules) in
+    rw e

@@ -1,33 +1,31 @@
--- The number of words decides the rule: the laws of `Line`.
-use Rattle.script.proofs.Line.{empty-line, comment, line-of-1, line-of-2, line-of-3, line-of-4, line-of-6, line-of-7, no-rule}
-use mathlib.Core.Path.{◌∙◌}
-use native.Mathlib.Omega.{arith}
-use borrow.Author.Rules.{rules}
+-- The laws of `Line`.
+use Rattle.std.proofs.Common.{◌≡◌, ◌≤◌, ◌<◌, length, map, ap, sym, ◌∙◌, rules, tests, arith}
+use Rattle.std.proofs.lemmas.List.{length-map}
+use Rattle.std.proofs.lemmas.Slice.{between_from_start}
+use Rattle.script.specs.Words.{words_of}
+use Rattle.script.specs.Commands.{line_of}
+use Rattle.script.proofs.Line.{empty-line, comment, said, all-words, too_many}
 use Rattle.script.proofs.command.parse.Goals as goal
+use Rattle.script.proofs.command.parse.Goals.{then-is_empty-via-then-is_empty, then-is_empty-via-else-is_empty+then-line-eq35}
 
-pub returns-then-line-eq0 : goal.returns-then-line-eq0
-returns-then-line-eq0 c = empty-line _ c.if-line-eq0.true
+pub returns-then-is_empty : goal.returns-then-is_empty
+returns-then-is_empty c =
+    elim c.then-is_empty.branch [
+      | then-is_empty-via-then-is_empty w ↦ empty-line _ (search (rules, tests))
+      | then-is_empty-via-else-is_empty+then-line-eq35 w ↦ comment _ (search (rules, tests)) w.if-line-eq35.true
+    ]
 
-pub returns-then-line-eq35 : goal.returns-then-line-eq35
-returns-then-line-eq35 c = comment _ (search rules) c.if-line-eq35.true
-
-pub returns-then-n-eq1 : goal.returns-then-n-eq1
-returns-then-n-eq1 c = c.bare.ensures ∙ line-of-1 _ (search rules) c.if-line-eq35.false (omega arith)
-
-pub returns-then-n-eq2 : goal.returns-then-n-eq2
-returns-then-n-eq2 c = c.file.ensures ∙ line-of-2 _ (search rules) c.if-line-eq35.false (omega arith)
-
-pub returns-then-n-eq3 : goal.returns-then-n-eq3
-returns-then-n-eq3 c = c.pair.ensures ∙ line-of-3 _ (search rules) c.if-line-eq35.false (omega arith)
-
-pub returns-then-n-eq4 : goal.returns-then-n-eq4
-returns-then-n-eq4 c = c.choice.ensures ∙ line-of-4 _ (search rules) c.if-line-eq35.false (omega arith)
-
-pub returns-then-n-eq6 : goal.returns-then-n-eq6
-returns-then-n-eq6 c = c.new.ensures ∙ line-of-6 _ (search rules) c.if-line-eq35.false (omega arith)
-
-pub returns-then-n-eq7 : goal.returns-then-n-eq7
-returns-then-n-eq7 c = c.range.ensures ∙ line-of-7 _ (search rules) c.if-line-eq35.false (omega arith)
+pub returns-in_err-get : goal.returns-in_err-get
+returns-in_err-get c =
+    let line = c.args.line.now in
+    let seven : length c.first_words.result ≡ 7 = sym (length-map c.first_words.result (λ w. w.now)) ∙ ap length c.first_words.ensures in
+    let more : 7 < length (words_of line) = omega (arith, c.count.ensures, c.in_err-get.ensures.lookup.0) in
+    c.from_residual.ensures ∙ sym (too_many _ more) ∙ said line (search (rules, tests)) c.if-line-eq35.false
 
 pub returns : goal.returns
-returns c = no-rule _ (search rules) c.if-line-eq35.false (λ e. omega arith) (λ e. omega arith) (λ e. omega arith) (λ e. omega arith) (λ e. omega arith) (λ e. omega arith)
+returns c =
+    let line = c.args.line.now in
+    let seven : length c.first_words.result ≡ 7 = sym (length-map c.first_words.result (λ w. w.now)) ∙ ap length c.first_words.ensures in
+    let within : c.count.result ≤ 7 = omega (arith, c.in_ok-get.ensures.lookup.0.1) in
+    c.rule.ensures ∙ ap line_of (ap (map (λ w. w.now)) (c.in_ok-get.ensures.lookup.0.2 ∙ between_from_start c.first_words.result c.count.result) ∙ all-words line _ _ c.first_words.ensures c.count.ensures within)
+    ∙ said line (search (rules, tests)) c.if-line-eq35.false

@@ -1,11 +1,7 @@
--- A byte a turn: the laws of `Digits` on the stores.
-use Prim.Native.Nat.{◌-◌}
-use lib.ListN.{length}
+-- The bytes that are stored, and the digits that are left: the laws of `Digits`.
+use Rattle.std.proofs.Common.{◌≡◌}
 use Rattle.script.proofs.Digits.{Storing}
 use Rattle.script.proofs.hex.overwrite.Given as goal
 
-abbrev pub invariant-loop-i : goal.invariant-loop-i
-invariant-loop-i l = Storing l.s l.initial.file l.at l.file l.place l.i
-
-abbrev pub decreases-loop-i : goal.decreases-loop-i
-decreases-loop-i l = length l.s - l.i
+abbrev pub invariant-loop-k : goal.invariant-loop-k
+invariant-loop-k l = Storing l.hex l.initial.file l.at l.k-iterator.count l.file l.k-iterator.iter.rest.now × (l.k-iterator.iter.size ≡ 2)

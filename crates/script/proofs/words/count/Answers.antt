@@ -1,16 +1,11 @@
-use Rattle.script.proofs.Cut.{count-space, count-byte, count-end}
-use native.Mathlib.Omega.{arith}
+use Rattle.std.proofs.Common.{eqb, rules, tests}
+use Rattle.std.proofs.lemmas.Iterator.Consumers.{count_from_yields_List}
+use Rattle.std.proofs.lemmas.Iterator.Splits.{YieldsList-from_slice_split}
+use Rattle.script.specs.Words.{words_of}
 use Rattle.script.proofs.words.count.Goals as goal
-use Rattle.script.proofs.words.count.Goals.{then-line-i-eq32, else-line-i-eq32}
-
-pub loop-i-preserved : goal.loop-i-preserved
-loop-i-preserved c =
-    let line = c.args.line.now in
-    let i = c.loop-i.i in
-    elim c.if-line-i-eq32.branch [
-      | then-line-i-eq32 w ↦ omega (arith, count-space line i (omega arith) w.if-line-i-eq32.true)
-      | else-line-i-eq32 w ↦ omega (arith, count-byte line i (omega arith) w.if-line-i-eq32.false)
-    ]
 
 pub returns : goal.returns
-returns c = omega (arith, count-end c.args.line.now c.loop-i.i (omega arith))
+unfolding words_of
+returns c =
+    count_from_yields_List c.split.result _ c.count.ensures.ran
+    (YieldsList-from_slice_split _ (λ b. eqb b 32) c.args.line.now c.split.ensures.rest c.split.ensures.done c.split.ensures.closure (λ x b q k. search (rules, tests)))

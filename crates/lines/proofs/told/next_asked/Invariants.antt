@@ -1,8 +1,0 @@
--- `next_asked` meets its contract: what is quiet goes round again, and the turns fall.
-use Rattle.lines.proofs.told.next_asked.Given as goal
-
-abbrev pub invariant-loop-turns : goal.invariant-loop-turns
-invariant-loop-turns g l = Unit {0}
-
-abbrev pub decreases-loop-turns : goal.decreases-loop-turns
-decreases-loop-turns g l = l.turns

@@ -1,5 +1,0 @@
--- The word that is read is word k.
-use Rattle.script.proofs.fields.int_at.Goals as goal
-
-pub returns : goal.returns
-returns c = rw (← c.word.ensures) c.read_int.ensures
