@@ -1,1 +1,1 @@
-pub mod Obeying
+pub mod Saving

@@ -1,5 +1,4 @@
-// What a script line does that asks something: the calls on the sampler and on the kept file.
+// What a script line does that asks something: the calls on the sampler and on the kept file, and their answers.
 #![tactic(auto)]
 
-pub mod kept;
 pub mod session;

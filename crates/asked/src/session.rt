@@ -1,261 +1,206 @@
 // What a line does that asks something: the sampler's call, and the answer's row.
-ghost use Rattle.std.specs.Prelude.{ℕ, List, ◌≡◌};
-ghost use Rattle.de.specs.Answer.{numbered};
-ghost use Rattle.de.specs.Sample.{sample_of};
-ghost use Rattle.history.specs.declared.CompletedTrial.{CompletedTrial};
-ghost use Rattle.script.specs.declared.command.Command.TheVariants.{New, Sample};
-ghost use Rattle.lines.specs.History.{history_in};
-ghost use Rattle.asked.specs.Session.{started_by, Begun, Ended, Answered, Obeyed};
+ghost use Rattle.std.specs.Prelude.{◌≡◌, Some, None};
+ghost use Rattle.std.specs.Io.KnownBytes.{Keeps};
+ghost use Rattle.script.specs.declared.command.Question.TheVariants.{New, Sample, Look, State as Show, Save, Restore, Bytes};
+ghost use Rattle.asked.specs.Answers.{malformed_text, refused_text, sample_text};
+ghost use Rattle.de.specs.Answer.{plain_answer};
+ghost use Rattle.asked.specs.Session.{file_after, Wrote, Obeyed};
+ghost use Rattle.saved.specs.Save.{save_of};
 
-use crate::kept::{bytes, restore, save};
-use de::build::{Built, DESamplerBuilder};
-use de::{Answer, Sampled};
-use distribution::Distribution;
+use de::build::{DESamplerBuilder, new_state};
+use de::sample::sample;
+use distribution::{Distribution, ParamValue, Refusal};
 use evolution::Setup;
-use lines::reader::Cursor;
-use lines::told::{first_numbers, first_values};
-use printed::rows::{best_row, malformed_row, refused_row, setting_row};
-use printed::sink::{Sink, put};
-use printed::whole::state_rows;
-use script::Command;
-use slots::{LookAnswer, Looked};
+use lines::Stop;
+use lines::kept::Kept;
+use lines::told::Told;
+use printed::rows::{Best, Rows, Setting, file_refusal_number};
+use printed::sink::Sink;
+use printed::whole::Whole;
+use saved::{FileRefusal, read, save};
+use script::Question;
+use slots::look;
 use state::State;
+use std::fmt::Write as _;
 use std::io::Write;
 
-// What is kept from question to question, beside the state and the arrays.
-#[derive(Clone, Copy)]
-pub struct Run {
-    pub cursor: Cursor,
-    // The entries of the history.
-    pub count: usize,
-    // The bytes of the kept file.
-    pub length: usize,
-    pub sink: Sink,
-    // An accepted `new` or a taken `restore` came, and no refused `new` after it.
-    pub accepted: bool,
-    pub stopped: bool,
+// There is a state once an accepted `new` or a taken `restore` came, and no refused `new` after it.
+#[derive(Drop)]
+pub struct Session<W: Write> {
+    pub state: Option<State>,
+    pub sink: Sink<W>,
 }
 
-// The state after a line, and the run.
-#[derive(Clone, Copy)]
-pub struct Step {
-    pub state: State,
-    pub run: Run,
-}
-
-// A run whose script breaks the rules ends.
-pub fn malformed<W: Write>(to: &mut W, out: &mut [u8; 8192], run: Run) -> Run
-    ensures { Ended run result }
+// The kept file has the length that was saved; a refused save leaves it.
+fn save_to(state: &State, file: &mut Kept) -> Result<usize, FileRefusal>
+    ensures value { result ≡ save_of state.now 81920 }
+    ensures after { file.new ≡ file_after (Some state.now) Save file.old }
 {
-    let mut r = run;
-    let cursor = r.cursor;
-    let sink = r.sink;
-    let s = malformed_row(to, out, sink, cursor.line);
-    r.sink = s;
-    r.stopped = true;
-    r
+    let length = save(state, &mut file.array)?;
+    file.length = length;
+    Ok(length)
 }
 
-// The state after a set-up.
-fn started(built: Built, state: State) -> State
-    ensures { result ≡ started_by built state }
-{
-    match built {
-        Built::Accepted(setup) => de::build::new_state(setup),
-        Built::Refused(_) => state,
-    }
-}
-
-// A set-up empties the history, a refused one too.
-fn begun<W: Write>(to: &mut W, out: &mut [u8; 8192], run: Run, built: Built) -> Run
-    ensures { Begun run built result }
-{
-    let mut r = run;
-    r.count = 0;
-    let sink = r.sink;
-    match built {
-        Built::Accepted(_) => {
-            let s = put(to, out, sink, b"new\n");
-            r.sink = s;
-            r.accepted = true;
-        }
-        Built::Refused(refusal) => {
-            let s = refused_row(to, out, sink, refusal);
-            r.sink = s;
-            r.accepted = false;
+#[tactic(auto, using(printed::proofs::Appending::appended))]
+impl<W: Write> Session<W> {
+    pub fn new(to: W) -> Self
+        ensures state { result.state ≡ None }
+        ensures sink { Keeps (W.contents to) result.sink }
+    {
+        Session {
+            state: None,
+            sink: Sink::new(to),
         }
     }
-    r
-}
 
-// A set-up.
-fn new<W: Write>(to: &mut W, out: &mut [u8; 8192], run: Run, state: State, setup: Setup) -> Step
-    ensures { (h : List CompletedTrial) (f : List ℕ) → Obeyed run state h f f (New setup) result }
-{
-    let builder = DESamplerBuilder { setup };
-    let built = builder.build();
-    Step {
-        state: started(built, state),
-        run: begun(to, out, run, built),
+    // The row of a line that breaks the rules.
+    pub fn malformed(&mut self, line: u64) -> Result<(), Stop>
+        ensures { Wrote self.old (malformed_text line) self.new result }
+    {
+        writeln!(self.sink, "malformed {line}")?;
+        Ok(())
     }
-}
 
-// The sample call with the first n entries of the history.
-fn sample_first<'a>(
-    state: State,
-    distribution: Distribution,
-    number: u64,
-    numbers: &'a [u64],
-    values: &'a [f64],
-    n: usize,
-) -> Sampled
-    ensures { numbered result ≡ sample_of state distribution number (history_in numbers.now values.now n) }
-{
-    de::sample::sample_slices(
-        state,
-        distribution,
-        number,
-        first_numbers(numbers, n),
-        first_values(values, n),
-    )
-}
-
-// A sample call's answer.
-fn answer_row<W: Write>(
-    to: &mut W,
-    out: &mut [u8; 8192],
-    sink: Sink,
-    answer: Answer,
-    draws: u64,
-) -> Sink {
-    match answer {
-        Answer::Setting(setting) => setting_row(to, out, sink, setting, draws),
-        Answer::Refused(refusal) => refused_row(to, out, sink, refusal),
+    fn refused(&mut self, number: u64) -> Result<(), Stop>
+        ensures { Wrote self.old (refused_text number) self.new result }
+    {
+        writeln!(self.sink, "refused {number}")?;
+        Ok(())
     }
-}
 
-// A sample line, where there is a state.
-fn sample<'a, W: Write>(
-    to: &mut W,
-    out: &mut [u8; 8192],
-    run: Run,
-    state: State,
-    number: u64,
-    distribution: Distribution,
-    numbers: &'a [u64; 65536],
-    values: &'a [f64; 65536],
-) -> Step
-    ensures { let h = history_in numbers.now values.now run.count in
-        ((f : List ℕ) → Obeyed run state h f f (Sample number distribution) result) }
-{
-    if run.accepted {
-        let mut r = run;
-        let sampled = sample_first(state, distribution, number, numbers, values, r.count);
-        let answer = sampled.answer;
-        let after = sampled.state;
-        let sink = r.sink;
-        let s = answer_row(to, out, sink, answer, sampled.draws);
-        r.sink = s;
-        return Step {
-            state: after,
-            run: r,
+    // A sample call's answer.
+    fn answer(&mut self, answer: Result<ParamValue, Refusal>, draws: u64) -> Result<(), Stop>
+        ensures { Wrote self.old (sample_text (plain_answer answer) draws) self.new result }
+    {
+        match answer {
+            Ok(setting) => {
+                let setting = Setting(setting);
+                writeln!(self.sink, "{setting} {draws}")?;
+                Ok(())
+            }
+            Err(why) => self.refused(why.number()),
+        }
+    }
+
+    // A set-up empties the history, a refused one too.
+    fn start(&mut self, setup: Setup, told: &mut Told) -> Result<(), Stop>
+        ensures { Obeyed self.old told.old (New setup) self.new told.new result }
+    {
+        told.history.clear();
+        let builder = DESamplerBuilder { setup };
+        match builder.build() {
+            Ok(accepted) => {
+                self.state = Some(new_state(accepted));
+                writeln!(self.sink, "new")?;
+                Ok(())
+            }
+            Err(why) => {
+                self.state = None;
+                self.refused(why.number())
+            }
+        }
+    }
+
+    // A sample line, where there is a state.
+    fn sample(&mut self, number: u64, distribution: Distribution, told: &Told) -> Result<(), Stop>
+        ensures { Obeyed self.old told.now (Sample number distribution) self.new told.now result }
+    {
+        let Some(state) = &mut self.state else {
+            return Err(Stop::Malformed);
         };
+        let sampled = sample(*state, distribution, number, told.history.entries());
+        *state = sampled.state;
+        self.answer(sampled.answer, sampled.draws)
     }
-    Step {
-        state,
-        run: malformed(to, out, run),
-    }
-}
 
-// A look call's answer.
-fn look_row<W: Write>(to: &mut W, out: &mut [u8; 8192], sink: Sink, looked: Looked) -> Sink {
-    let look = looked.look;
-    let values = looked.values;
-    match look {
-        LookAnswer::Refused(refusal) => refused_row(to, out, sink, refusal),
-        LookAnswer::Nothing => put(to, out, sink, b"look -\n"),
-        LookAnswer::Best(best) => best_row(
-            to,
-            out,
-            sink,
-            best,
-            looked.closed,
-            looked.idle,
-            values,
-            looked.n,
-        ),
+    // A look line, where there is a state.
+    fn look(&mut self, told: &Told) -> Result<(), Stop>
+        ensures { Obeyed self.old told.now Look self.new told.now result }
+    {
+        let Some(state) = &self.state else {
+            return Err(Stop::Malformed);
+        };
+        let looked = look(state);
+        match looked.look {
+            Ok(Some(best)) => {
+                let row = Best(best, &looked);
+                writeln!(self.sink, "{row}")?;
+                Ok(())
+            }
+            Ok(None) => {
+                writeln!(self.sink, "look -")?;
+                Ok(())
+            }
+            Err(why) => self.refused(why.number()),
+        }
     }
-}
 
-// A look line, where there is a state.
-fn look<W: Write>(to: &mut W, out: &mut [u8; 8192], run: Run, state: State) -> Run
-    ensures { Answered run result }
-{
-    if run.accepted {
-        let mut r = run;
-        let looked = slots::look(state);
-        let sink = r.sink;
-        let s = look_row(to, out, sink, looked);
-        r.sink = s;
-        return r;
+    // A state line, where there is a state.
+    fn show(&mut self, told: &Told) -> Result<(), Stop>
+        ensures { Obeyed self.old told.now Show self.new told.now result }
+    {
+        let Some(state) = &self.state else {
+            return Err(Stop::Malformed);
+        };
+        let whole = Whole(state);
+        write!(self.sink, "{whole}")?;
+        Ok(())
     }
-    malformed(to, out, run)
-}
 
-// A state line, where there is a state.
-fn show<W: Write>(to: &mut W, out: &mut [u8; 8192], run: Run, state: State) -> Run
-    ensures { Answered run result }
-{
-    if run.accepted {
-        let mut r = run;
-        let sink = r.sink;
-        let s = state_rows(to, out, sink, state);
-        r.sink = s;
-        return r;
+    // A save line, where there is a state.
+    fn save(&mut self, told: &mut Told) -> Result<(), Stop>
+        ensures { Obeyed self.old told.old Save self.new told.new result }
+    {
+        let Some(state) = &self.state else {
+            return Err(Stop::Malformed);
+        };
+        match save_to(state, &mut told.file) {
+            Ok(length) => {
+                writeln!(self.sink, "saved {length}")?;
+                Ok(())
+            }
+            Err(why) => self.refused(file_refusal_number(why)),
+        }
     }
-    malformed(to, out, run)
-}
 
-// A line that is not settled by the history and the kept file alone.
-pub fn obey<'a, W: Write>(
-    to: &mut W,
-    out: &mut [u8; 8192],
-    run: Run,
-    state: State,
-    command: Command,
-    numbers: &'a [u64; 65536],
-    values: &'a [f64; 65536],
-    file: &mut [u8; 81920],
-) -> Step
-    ensures { let h = history_in numbers.now values.now run.count in
-        Obeyed run state h file.old file.new command result }
-{
-    match command {
-        Command::New(setup) => new(to, out, run, state, setup),
-        Command::Sample {
-            number,
-            distribution,
-        } => sample(to, out, run, state, number, distribution, numbers, values),
-        Command::Look => Step {
-            state,
-            run: look(to, out, run, state),
-        },
-        Command::State => Step {
-            state,
-            run: show(to, out, run, state),
-        },
-        Command::Save => Step {
-            state,
-            run: save(to, out, run, state, file),
-        },
-        Command::Restore => restore(to, out, run, state, file),
-        Command::Bytes => Step {
-            state,
-            run: bytes(to, out, run, file),
-        },
-        _ => Step {
-            state,
-            run: malformed(to, out, run),
-        },
+    // A restore line, whether there is a state or not: there is one once a file is taken.
+    fn restore(&mut self, told: &Told) -> Result<(), Stop>
+        ensures { Obeyed self.old told.now Restore self.new told.now result }
+    {
+        match read(told.file.bytes()) {
+            Ok(state) => {
+                self.state = Some(state);
+                writeln!(self.sink, "restored")?;
+                Ok(())
+            }
+            Err(why) => self.refused(file_refusal_number(why)),
+        }
+    }
+
+    // A bytes line.
+    fn bytes(&mut self, told: &Told) -> Result<(), Stop>
+        ensures { Obeyed self.old told.now Bytes self.new told.now result }
+    {
+        let rows = Rows(told.file.bytes());
+        write!(self.sink, "{rows}")?;
+        Ok(())
+    }
+
+    // A line that is not settled by the history and the kept file alone.
+    pub fn obey(&mut self, question: Question, told: &mut Told) -> Result<(), Stop>
+        ensures { Obeyed self.old told.old question self.new told.new result }
+    {
+        match question {
+            Question::New(setup) => self.start(setup, told),
+            Question::Sample {
+                number,
+                distribution,
+            } => self.sample(number, distribution, told),
+            Question::Look => self.look(told),
+            Question::State => self.show(told),
+            Question::Save => self.save(told),
+            Question::Restore => self.restore(told),
+            Question::Bytes => self.bytes(told),
+        }
     }
 }

@@ -1,259 +1,129 @@
 // The whole state: a line for itself, then one for each parent, candidate and open trial.
-ghost use Rattle.std.specs.Prelude.{◌≤◌};
+ghost use Rattle.std.specs.Prelude.{Some, flat_map, take};
+ghost use Rattle.std.specs.Fmt.{WritesOnOk};
+ghost use Rattle.state.specs.View.{candidate_count, parent_count};
+ghost use Rattle.printed.specs.Whole.{dims_in, choices_text, vector_text, parent_text, candidate_text, trial_text, first_text, phase_text, head_text, state_text};
 
-use crate::rows::{least, put_next, put_next_double};
-use crate::sink::{Sink, put, put_double, put_pattern, put_whole};
-use candidates::{Candidate, continuous_place};
-use distribution::{DimIdx, DimensionInfo, is_continuous};
-use evolution::Member;
+use crate::rows::{Bits, Digits, first, put_values};
+use candidates::Candidate;
+use distribution::{DimensionInfo, is_continuous};
+use state::State;
 use state::sound::{candidate_count, parent_count};
-use state::{FirstTrial, State, TrialProgress};
-use std::io::Write;
-
-// What a row reads of the dimensions: how many there are, how many are continuous, and which are not.
-#[derive(Clone, Copy)]
-pub struct Shape {
-    pub n_dims: usize,
-    pub n_continuous: usize,
-    pub categorical: [bool; 16],
-}
-
-// Which of the first n dimensions have choices.
-fn categorical(dims: [DimensionInfo; 16], n: usize) -> [bool; 16]
-    requires { n ≤ 16 }
-{
-    let mut flags = [false; 16];
-    let mut i: usize = 0;
-    while i < n {
-        let d = dims[i];
-        let k = d.distribution;
-        flags[i] = !is_continuous(k);
-        i += 1;
-    }
-    flags
-}
-
-fn shape_of(dims: [DimensionInfo; 16], count: usize) -> Shape {
-    let n_dims = least(count, 16);
-    let n_continuous = continuous_place(dims, n_dims, DimIdx(n_dims)).0;
-    let flags = categorical(dims, n_dims);
-    Shape {
-        n_dims,
-        n_continuous,
-        categorical: flags,
-    }
-}
-
-// The entries, of which each continuous dimension has one.
-fn put_entries<W: Write>(
-    to: &mut W,
-    out: &mut [u8; 8192],
-    sink: Sink,
-    x: [f64; 16],
-    count: usize,
-) -> Sink {
-    let n = least(count, 16);
-    let mut s = sink;
-    let mut i: usize = 0;
-    while i < n {
-        s = put_next_double(to, out, s, x[i]);
-        i += 1;
-    }
-    s
-}
-
-// ` DIM:CHOICE`, where the dimension is categorical.
-fn put_choice<W: Write>(
-    to: &mut W,
-    out: &mut [u8; 8192],
-    sink: Sink,
-    categorical: bool,
-    dim: usize,
-    choice: u16,
-) -> Sink {
-    if categorical {
-        let a = put_next(to, out, sink, dim as u64);
-        let b = put(to, out, a, b":");
-        return put_whole(to, out, b, choice as u64);
-    }
-    sink
-}
+use std::fmt::{self, Formatter, Write};
 
 // The choices in dimension order.
 fn put_choices<W: Write>(
-    to: &mut W,
-    out: &mut [u8; 8192],
-    sink: Sink,
-    choices: [u16; 16],
-    shape: Shape,
-) -> Sink {
-    let categorical = shape.categorical;
-    let n = least(shape.n_dims, 16);
-    let mut s = sink;
-    let mut i: usize = 0;
-    while i < n {
-        s = put_choice(to, out, s, categorical[i], i, choices[i]);
-        i += 1;
+    f: &mut Formatter<W>,
+    dims: &[DimensionInfo],
+    choices: &[u16],
+) -> fmt::Result
+    ensures { WritesOnOk W.write_str_gives f.old result (choices_text dims.now choices.now) f.new }
+{
+    for (i, (dim, choice)) in dims.iter().zip(choices).enumerate() {
+        if !is_continuous(dim.distribution) {
+            write!(f, " {i}:{choice}")?;
+        }
     }
-    s
+    Ok(())
 }
 
-// The entries in order, then the choices, to the line's end.
+// The entries, of which each continuous dimension has one, then the choices.
+#[tactic(auto, unfolding(crate::specs::Whole::vector_text))]
 fn put_vector<W: Write>(
-    to: &mut W,
-    out: &mut [u8; 8192],
-    sink: Sink,
-    candidate: Candidate,
-    shape: Shape,
-) -> Sink {
-    let x = candidate.x;
-    let choices = candidate.choices;
-    let a = put_entries(to, out, sink, x, shape.n_continuous);
-    let b = put_choices(to, out, a, choices, shape);
-    put(to, out, b, b"\n")
+    f: &mut Formatter<W>,
+    dims: &[DimensionInfo],
+    candidate: &Candidate,
+) -> fmt::Result
+    ensures { WritesOnOk W.write_str_gives f.old result (vector_text dims.now candidate.now) f.new }
+{
+    let n = dims
+        .iter()
+        .filter(|d| is_continuous(d.distribution))
+        .count();
+    put_values(f, first(&candidate.x, n))?;
+    put_choices(f, dims, &candidate.choices)
 }
 
-// `parent VALUE X0 X1 .. DIM:CHOICE ..`.
-fn parent_row<W: Write>(
-    to: &mut W,
-    out: &mut [u8; 8192],
-    sink: Sink,
-    member: Member,
-    shape: Shape,
-) -> Sink {
-    let candidate = member.candidate;
-    let a = put(to, out, sink, b"parent ");
-    let b = put_double(to, out, a, member.value);
-    put_vector(to, out, b, candidate, shape)
-}
-
-fn parent_rows<W: Write>(
-    to: &mut W,
-    out: &mut [u8; 8192],
-    sink: Sink,
-    parents: [Member; 160],
-    count: usize,
-    shape: Shape,
-) -> Sink {
-    let n = least(count, 160);
-    let mut s = sink;
-    let mut i: usize = 0;
-    while i < n {
-        let m = parents[i];
-        s = parent_row(to, out, s, m, shape);
-        i += 1;
+fn put_parents<W: Write>(f: &mut Formatter<W>, state: &State) -> fmt::Result
+    ensures { WritesOnOk W.write_str_gives f.old result (flat_map (parent_text (dims_in state.now)) (take (parent_count state.now) state.now.parents)) f.new }
+{
+    let dims = first(&state.dims, state.n_dims);
+    for parent in first(&state.parents, parent_count(state.closed, state.n)) {
+        let value = Bits(parent.value);
+        write!(f, "parent {value}")?;
+        put_vector(f, dims, &parent.candidate)?;
+        writeln!(f)?;
     }
-    s
+    Ok(())
 }
 
-// `candidate X0 X1 .. DIM:CHOICE ..`.
-fn candidate_row<W: Write>(
-    to: &mut W,
-    out: &mut [u8; 8192],
-    sink: Sink,
-    candidate: Candidate,
-    shape: Shape,
-) -> Sink {
-    let a = put(to, out, sink, b"candidate");
-    put_vector(to, out, a, candidate, shape)
-}
-
-fn candidate_rows<W: Write>(
-    to: &mut W,
-    out: &mut [u8; 8192],
-    sink: Sink,
-    candidates: [Candidate; 224],
-    count: usize,
-    shape: Shape,
-) -> Sink {
-    let n = least(count, 224);
-    let mut s = sink;
-    let mut i: usize = 0;
-    while i < n {
-        let c = candidates[i];
-        s = candidate_row(to, out, s, c, shape);
-        i += 1;
+fn put_candidates<W: Write>(f: &mut Formatter<W>, state: &State) -> fmt::Result
+    ensures { WritesOnOk W.write_str_gives f.old result (flat_map (candidate_text (dims_in state.now)) (take (candidate_count state.now) state.now.candidates)) f.new }
+{
+    let dims = first(&state.dims, state.n_dims);
+    let count = candidate_count(state.discovered, state.n, state.n_trials);
+    for candidate in first(&state.candidates, count) {
+        write!(f, "candidate")?;
+        put_vector(f, dims, candidate)?;
+        writeln!(f)?;
     }
-    s
+    Ok(())
 }
 
-// `trial NUMBER NEXT`.
-fn trial_row<W: Write>(to: &mut W, out: &mut [u8; 8192], sink: Sink, trial: TrialProgress) -> Sink {
-    let a = put(to, out, sink, b"trial");
-    let b = put_next(to, out, a, trial.number);
-    let c = put_next(to, out, b, trial.next_dim as u64);
-    put(to, out, c, b"\n")
-}
-
-fn trial_rows<W: Write>(
-    to: &mut W,
-    out: &mut [u8; 8192],
-    sink: Sink,
-    trials: [TrialProgress; 224],
-    count: usize,
-) -> Sink {
-    let n = least(count, 224);
-    let mut s = sink;
-    let mut i: usize = 0;
-    while i < n {
-        let t = trials[i];
-        s = trial_row(to, out, s, t);
-        i += 1;
+fn put_trials<W: Write>(f: &mut Formatter<W>, state: &State) -> fmt::Result
+    ensures { WritesOnOk W.write_str_gives f.old result (flat_map trial_text (take state.now.n_trials state.now.trials)) f.new }
+{
+    for trial in first(&state.trials, state.n_trials) {
+        let number = trial.number;
+        let next = trial.next_dim;
+        writeln!(f, "trial {number} {next}")?;
     }
-    s
+    Ok(())
 }
 
-fn put_phase<W: Write>(to: &mut W, out: &mut [u8; 8192], sink: Sink, discovered: bool) -> Sink {
-    if discovered {
-        return put(to, out, sink, b"state active ");
-    }
-    put(to, out, sink, b"state discovery ")
-}
-
-fn put_first<W: Write>(to: &mut W, out: &mut [u8; 8192], sink: Sink, first: FirstTrial) -> Sink {
+fn put_first<W: Write>(f: &mut Formatter<W>, first: Option<u64>) -> fmt::Result
+    ensures { WritesOnOk W.write_str_gives f.old result (first_text first) f.new }
+{
     match first {
-        FirstTrial::Unnamed => put(to, out, sink, b"-"),
-        FirstTrial::Named(number) => put_whole(to, out, sink, number),
+        Some(number) => write!(f, "{number}"),
+        None => write!(f, "-"),
     }
 }
 
-// ` N D BEST WORD`, to the line's end.
-fn put_counts<W: Write>(
-    to: &mut W,
-    out: &mut [u8; 8192],
-    sink: Sink,
-    n: usize,
-    n_dims: usize,
-    best: usize,
-    word: u64,
-) -> Sink {
-    let a = put_next(to, out, sink, n as u64);
-    let b = put_next(to, out, a, n_dims as u64);
-    let c = put_next(to, out, b, best as u64);
-    let d = put(to, out, c, b" ");
-    let e = put_pattern(to, out, d, word);
-    put(to, out, e, b"\n")
+fn put_phase<W: Write>(f: &mut Formatter<W>, discovered: bool) -> fmt::Result
+    ensures { WritesOnOk W.write_str_gives f.old result (phase_text discovered) f.new }
+{
+    if discovered {
+        write!(f, "state active ")
+    } else {
+        write!(f, "state discovery ")
+    }
 }
 
 // `state PHASE FIRST N D BEST WORD`.
-fn head_row<W: Write>(to: &mut W, out: &mut [u8; 8192], sink: Sink, state: State) -> Sink {
-    let first = state.first;
-    let a = put_phase(to, out, sink, state.discovered);
-    let b = put_first(to, out, a, first);
-    put_counts(to, out, b, state.n, state.n_dims, state.best, state.word)
+#[tactic(auto, unfolding(crate::specs::Whole::head_text))]
+fn put_head<W: Write>(f: &mut Formatter<W>, state: &State) -> fmt::Result
+    ensures { WritesOnOk W.write_str_gives f.old result (head_text state.now) f.new }
+{
+    put_phase(f, state.discovered)?;
+    put_first(f, state.first)?;
+    let (n, n_dims, best) = (state.n, state.n_dims, state.best);
+    write!(f, " {n} {n_dims} {best} ")?;
+    let word = Digits::<16>(state.word);
+    writeln!(f, "{word}")
 }
 
-// Every line of the state.
-pub fn state_rows<W: Write>(to: &mut W, out: &mut [u8; 8192], sink: Sink, state: State) -> Sink {
-    let dims = state.dims;
-    let parents = state.parents;
-    let candidates = state.candidates;
-    let trials = state.trials;
-    let shape = shape_of(dims, state.n_dims);
-    let a = head_row(to, out, sink, state);
-    let n_parents = parent_count(state.closed, state.n);
-    let b = parent_rows(to, out, a, parents, n_parents, shape);
-    let n_candidates = candidate_count(state.discovered, state.n, state.n_trials);
-    let c = candidate_rows(to, out, b, candidates, n_candidates, shape);
-    trial_rows(to, out, c, trials, state.n_trials)
+#[derive(Clone, Copy)]
+pub struct Whole<'a>(pub &'a State);
+
+#[tactic(auto, unfolding(crate::specs::Whole::state_text))]
+impl fmt::Display for Whole<'_> {
+    ghost output = { λ w. Some (state_text w.0.now) };
+
+    fn fmt<W: Write>(&self, f: &mut Formatter<W>) -> fmt::Result {
+        put_head(f, self.0)?;
+        put_parents(f, self.0)?;
+        put_candidates(f, self.0)?;
+        put_trials(f, self.0)
+    }
 }

@@ -1,9 +1,8 @@
--- `put_values` ends: each turn writes one of n values.
-use Prim.Native.Nat.{◌-◌}
+-- What the values so far write.
+use Rattle.std.proofs.Common.{take}
+use Rattle.std.specs.Fmt.{HasWritten, IsPlainFormatter}
+use Rattle.printed.specs.Rows.{values_text}
 use Rattle.printed.proofs.rows.put_values.Given as goal
 
-abbrev pub invariant-loop-i : goal.invariant-loop-i
-invariant-loop-i g l = Unit {0}
-
-abbrev pub decreases-loop-i : goal.decreases-loop-i
-decreases-loop-i g l = l.n - l.i
+abbrev pub invariant-loop-x : goal.invariant-loop-x
+invariant-loop-x g l = IsPlainFormatter l.initial.f → HasWritten g.W.Write.write_str_gives l.initial.f (values_text (take l.x-index l.values)) l.f

@@ -1,9 +1,0 @@
--- `categorical` ends: each turn takes one of n dimensions.
-use Prim.Native.Nat.{◌-◌}
-use Rattle.printed.proofs.whole.categorical.Given as goal
-
-abbrev pub invariant-loop-i : goal.invariant-loop-i
-invariant-loop-i l = Unit {0}
-
-abbrev pub decreases-loop-i : goal.decreases-loop-i
-decreases-loop-i l = l.n - l.i
