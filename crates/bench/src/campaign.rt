@@ -1,7 +1,7 @@
 // The states that are measured: every slot's trial open, none of them told.
 use de::build::{DESamplerBuilder, new_state};
 use de::sample::sample_slices;
-use distribution::{Distribution, FloatDistribution, FloatStep};
+use distribution::{Distribution, FloatDistribution};
 use state::State;
 
 // Float 0..1.
@@ -10,7 +10,7 @@ pub fn unit_interval() -> Distribution {
         low: 0.0,
         high: 1.0,
         log_scale: false,
-        step: FloatStep::Unset,
+        step: None,
     })
 }
 
@@ -18,18 +18,14 @@ pub fn unit_interval() -> Distribution {
 pub fn call(state: State, trial: u64) -> State {
     let numbers = [0u64; 1];
     let values = [0.0f64; 1];
-    let s = sample_slices(state, unit_interval(), trial, &numbers[0..0], &values[0..0]);
-    let after = s.state;
-    after
+    sample_slices(state, unit_interval(), trial, &numbers[..0], &values[..0]).state
 }
 
 // k calls of trial 1.
 fn discover(state: State, k: u64) -> State {
     let mut s = state;
-    let mut i: u64 = 0;
-    while i < k {
+    for _ in 0..k {
         s = call(s, 1);
-        i += 1;
     }
     s
 }
@@ -37,17 +33,14 @@ fn discover(state: State, k: u64) -> State {
 // A call each of the trials from..end.
 pub fn trials(state: State, from: u64, end: u64) -> State {
     let mut s = state;
-    let mut trial = from;
-    while trial < end {
+    for trial in from..end {
         s = call(s, trial);
-        trial += 1;
     }
     s
 }
 
 // k dimensions, and the trials 2..end open.
 pub fn open(seed: u64, k: u64, end: u64) -> State {
-    let b = DESamplerBuilder::new().seed(seed);
-    let found = discover(new_state(b.setup), k);
-    trials(found, 2, end)
+    let builder = DESamplerBuilder::new().seed(seed);
+    trials(discover(new_state(builder.setup), k), 2, end)
 }

@@ -1,12 +1,9 @@
 // Closing calls, each timed by itself at the end of a generation.
-ghost use Rattle.std.specs.Prelude.{◌≤◌};
-
 use crate::campaign::{trials, unit_interval};
 use crate::clock::{now, since};
-use crate::work::{Timed, least};
+use crate::work::Timed;
 use de::sample::sample_slices;
 use state::State;
-use state::lists::trial_numbers;
 use std::io;
 use std::time::Clock;
 
@@ -22,37 +19,27 @@ pub struct Campaign {
 fn results(word: u64) -> [f64; 224] {
     let mut values = [0.0f64; 224];
     let mut w = word;
-    let mut i: usize = 0;
-    while i < 224 {
+    for value in &mut values {
         let s = rng_util::next(w);
         w = s.word;
-        values[i] = rng_util::unit(s.output);
-        i += 1;
+        *value = rng_util::unit(s.output);
     }
     values
-}
-
-fn capped(n: usize) -> usize
-    ensures { result ≤ 224 }
-{
-    if n < 224 { n } else { 224 }
 }
 
 // The closing call: its history has the results of the first N open trials.
 fn closing(rt: &impl Clock, c: Campaign) -> io::Result<Campaign> {
     let state = c.state;
-    let open = state.trials;
-    let numbers = trial_numbers(open);
+    let numbers = state.trials.map(|trial| trial.number);
     let values = results(state.word);
-    let n = capped(state.n);
+    let n = state.n.min(224);
     let from = now(rt)?;
     let s = sample_slices(state, unit_interval(), c.next, &numbers[..n], &values[..n]);
     let ns = since(rt, from)?;
-    let after = s.state;
     Ok(Campaign {
-        state: after,
+        state: s.state,
         next: c.next,
-        ns: least(c.ns, ns),
+        ns: c.ns.min(ns),
     })
 }
 
@@ -60,8 +47,8 @@ fn closing(rt: &impl Clock, c: Campaign) -> io::Result<Campaign> {
 fn generation(rt: &impl Clock, c: Campaign) -> io::Result<Campaign> {
     let d = closing(rt, c)?;
     let after = d.state;
-    let end = std::num::wrapping_add_u64(c.next, after.n as u64);
-    let state = trials(after, std::num::wrapping_add_u64(c.next, 1), end);
+    let end = c.next.wrapping_add(after.n as u64);
+    let state = trials(after, c.next.wrapping_add(1), end);
     Ok(Campaign {
         state,
         next: end,
@@ -69,28 +56,19 @@ fn generation(rt: &impl Clock, c: Campaign) -> io::Result<Campaign> {
     })
 }
 
-fn generations(rt: &impl Clock, from: Campaign, turns: u64) -> io::Result<Campaign> {
-    let mut c = from;
-    let mut i: u64 = 0;
-    while i < turns {
-        c = generation(rt, c)?;
-        i += 1;
-    }
-    Ok(c)
-}
-
 // The least time of fifty closings, the first of which stores and the others select.
 pub fn best_closing(rt: &impl Clock, state: State, next: u64) -> io::Result<Timed> {
-    let from = Campaign {
+    let mut c = Campaign {
         state,
         next,
-        ns: 18446744073709551615,
+        ns: u64::MAX,
     };
-    let last = generations(rt, from, 50)?;
-    let end = last.state;
+    for _ in 0..50 {
+        c = generation(rt, c)?;
+    }
     Ok(Timed {
-        ns: last.ns,
-        word: end.word,
-        n_trials: end.n_trials,
+        ns: c.ns,
+        word: c.state.word,
+        n_trials: c.state.n_trials,
     })
 }

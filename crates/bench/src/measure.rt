@@ -1,10 +1,10 @@
 // The figures: at N = 160 with 16 dimensions, at N = 20 with 2, of a long history, and of rounding by itself.
-use crate::campaign::open;
+use crate::campaign::{open, trials};
 use crate::closings::best_closing;
 use crate::rounded::best_pass;
 use crate::scan::scan;
 use crate::show::{expect, hundredfold, ratio, time};
-use crate::work::{Work, best};
+use crate::work::{best, copies};
 use state::State;
 use std::rt::Env;
 use std::time::Clock;
@@ -20,9 +20,10 @@ struct Figures {
 
 // Of a state with the trials 2 to n + 1 open.
 fn figures_of(rt: &(impl Clock + Print), state: State, n: u64) -> io::Result<Figures> {
-    let copy = best(rt, Work::Copies, state, 500)?;
-    let sample = best(rt, Work::Calls, state, n)?;
-    let closing = best_closing(rt, state, std::num::wrapping_add_u64(n, 2))?;
+    let end = n.wrapping_add(2);
+    let copy = best(rt, state, |s| copies(s, 500))?;
+    let sample = best(rt, state, |s| trials(s, 2, end))?;
+    let closing = best_closing(rt, state, end)?;
     expect(rt, copy.n_trials == n as usize)?;
     expect(rt, sample.n_trials == n as usize)?;
     expect(rt, closing.n_trials == n as usize)?;
@@ -33,41 +34,34 @@ fn figures_of(rt: &(impl Clock + Print), state: State, n: u64) -> io::Result<Fig
     })
 }
 
-fn large(rt: &impl Print, f: Figures) -> io::Result<()> {
-    time(rt, "copy-160-16", f.copy)?;
-    time(rt, "sample-160-16", f.sample)?;
-    time(rt, "closing-160-16", f.closing)?;
-    ratio(rt, "sample/copy-160-16", f.sample, f.copy)?;
-    ratio(rt, "closing/copy-160-16", f.closing, f.copy)
-}
-
-fn small(rt: &impl Print, f: Figures) -> io::Result<()> {
-    time(rt, "copy-20-2", f.copy)?;
-    time(rt, "sample-20-2", f.sample)?;
-    time(rt, "closing-20-2", f.closing)?;
-    ratio(rt, "sample/copy-20-2", f.sample, f.copy)?;
-    ratio(rt, "closing/copy-20-2", f.closing, f.copy)
+// The lines of one size of state, such as 160-16.
+fn lines(rt: &impl Print, size: &str, f: Figures) -> io::Result<()> {
+    time(rt, "copy", size, f.copy)?;
+    time(rt, "sample", size, f.sample)?;
+    time(rt, "closing", size, f.closing)?;
+    ratio(rt, "sample/copy", size, f.sample, f.copy)?;
+    ratio(rt, "closing/copy", size, f.closing, f.copy)
 }
 
 fn long_history(rt: &(impl Clock + Print), state: State) -> io::Result<()> {
     let t = scan(rt, state)?;
     expect(rt, t.n_trials == 160)?;
     // Nanoseconds an entry.
-    ratio(rt, "scan-ns", hundredfold(t.ns, 100000), 100)
+    ratio(rt, "scan-ns", "", hundredfold(t.ns, 100000), 100)
 }
 
 fn rounding_alone(rt: &(impl Clock + Print), seed: u64) -> io::Result<()> {
     let p = best_pass(rt, seed)?;
     expect(rt, p.sum == rounding::round(p.sum))?;
-    time(rt, "round", hundredfold(p.ns, 1000))
+    time(rt, "round", "", hundredfold(p.ns, 1000))
 }
 
 // The seed is how many arguments there are: 2, which the compiler does not know.
 pub fn measure(rt: &(impl Alloc + Clock + Env + Print)) -> io::Result<()> {
     let seed = env::args(rt)?.len() as u64;
     let state = open(seed, 16, 162);
-    large(rt, figures_of(rt, state, 160)?)?;
-    small(rt, figures_of(rt, open(seed, 2, 22), 20)?)?;
+    lines(rt, "-160-16", figures_of(rt, state, 160)?)?;
+    lines(rt, "-20-2", figures_of(rt, open(seed, 2, 22), 20)?)?;
     long_history(rt, state)?;
     rounding_alone(rt, seed)
 }

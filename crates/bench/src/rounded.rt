@@ -1,6 +1,5 @@
 // Rounding by itself, in a loop over a fixed list of doubles.
 use crate::clock::{now, since};
-use crate::work::least;
 use std::io;
 use std::time::Clock;
 
@@ -15,24 +14,16 @@ pub struct Summed {
 fn doubles(seed: u64) -> [f64; 1000] {
     let mut xs = [0.0f64; 1000];
     let mut w = seed;
-    let mut i: usize = 0;
-    while i < 1000 {
+    for x in &mut xs {
         let s = rng_util::next(w);
         w = s.word;
-        xs[i] = rng_util::f64_range(0.0, 1000.0, rng_util::unit(s.output));
-        i += 1;
+        *x = rng_util::f64_range(0.0, 1000.0, rng_util::unit(s.output));
     }
     xs
 }
 
 fn sum_rounded(from: f64, xs: &[f64; 1000]) -> f64 {
-    let mut sum = from;
-    let mut i: usize = 0;
-    while i < 1000 {
-        sum = sum + rounding::round(xs[i]);
-        i += 1;
-    }
-    sum
+    xs.iter().fold(from, |sum, x| sum + rounding::round(*x))
 }
 
 fn pass(rt: &impl Clock, from: f64, xs: &[f64; 1000]) -> io::Result<Summed> {
@@ -45,14 +36,16 @@ fn pass(rt: &impl Clock, from: f64, xs: &[f64; 1000]) -> io::Result<Summed> {
 // The least time of a thousand passes. Each goes on from the sum of the one before, so that the compiler cannot make one of them.
 pub fn best_pass(rt: &impl Clock, seed: u64) -> io::Result<Summed> {
     let xs = doubles(seed);
-    let mut ns: u64 = 18446744073709551615;
-    let mut sum = 0.0;
-    let mut i: u64 = 0;
-    while i < 1000 {
-        let p = pass(rt, sum, &xs)?;
-        sum = p.sum;
-        ns = least(ns, p.ns);
-        i += 1;
+    let mut best = Summed {
+        ns: u64::MAX,
+        sum: 0.0,
+    };
+    for _ in 0..1000 {
+        let p = pass(rt, best.sum, &xs)?;
+        best = Summed {
+            ns: best.ns.min(p.ns),
+            sum: p.sum,
+        };
     }
-    Ok(Summed { ns, sum })
+    Ok(best)
 }

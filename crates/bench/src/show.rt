@@ -8,14 +8,14 @@ fn hundredths(rt: &impl Print, v: u64) -> io::Result<()> {
     println!(rt; "{whole}.{tenth}{hundredth}")
 }
 
-pub fn time(rt: &impl Print, name: &str, v: u64) -> io::Result<()> {
-    print!(rt; "time {name} ")?;
+pub fn time(rt: &impl Print, name: &str, size: &str, v: u64) -> io::Result<()> {
+    print!(rt; "time {name}{size} ")?;
     hundredths(rt, v)
 }
 
 // v to w.
-pub fn ratio(rt: &impl Print, name: &str, v: u64, w: u64) -> io::Result<()> {
-    print!(rt; "ratio {name} ")?;
+pub fn ratio(rt: &impl Print, name: &str, size: &str, v: u64, w: u64) -> io::Result<()> {
+    print!(rt; "ratio {name}{size} ")?;
     hundredths(rt, hundredfold(v, w))
 }
 

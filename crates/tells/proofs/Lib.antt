@@ -1,7 +1,5 @@
-pub mod Widths
-pub mod Answers
-pub mod Blocks
 pub mod Joined
+pub mod Longest
+pub mod Widths
 pub mod Spaced
 pub mod ToldBack
-pub mod Longest

@@ -10,14 +10,13 @@ use lib.Dec.{T, ltb}
 use lib.Ieee.{Float, fits, to_bits, binary64}
 use borrow.Author.Tests.{ltb-true}
 use Rattle.numbers.specs.Numbers.{whole_of, double_of}
-use Rattle.numbers.specs.declared.WholeWord.TheVariants as Whole
-use Rattle.numbers.specs.declared.DoubleWord.TheVariants as Double
+use Rattle.std.specs.Prelude.{Some, None}
 use Rattle.numbers.proofs.RoundTrip.{decimal-read-back, double-read-back}
 use Rattle.metrics.specs.declared.ExportRefusal.{ExportRefusal}
 use Rattle.metrics.specs.declared.ExportRefusal.TheVariants.{MalformedLine, ShortHistory}
-use Rattle.script.specs.Words.{words_of, same_bytes}
+use Rattle.script.specs.Words.{words_of}
 use Rattle.script.specs.Commands.{command_of, line_of, pair_line, tell_line, file_line}
-use Rattle.script.specs.declared.command.Command.TheVariants.{Malformed, Tell}
+use Rattle.script.specs.declared.command.Command.TheVariants.{Tell}
 use Rattle.tells.specs.Text.{places_from, whole_text, pattern_text, tell_row, refused_row}
 use Rattle.tells.proofs.Joined.{fourteen, fifteen}
 use Rattle.tells.proofs.Spaced.{Spaceless, digits-spaceless, word-then, word-alone}
@@ -44,11 +43,11 @@ enough (suc more) k n h =
     go true e h = ltb-true n (10 ^ k) e
     go false e h = h
 
-whole_back : (n : ℕ) → n < 2 ^ 64 → whole_of (whole_text n) ≡ Whole.Is n
+whole_back : (n : ℕ) → n < 2 ^ 64 → whole_of (whole_text n) ≡ Some n
 unfolding whole_text
 whole_back n h = decimal-read-back (places_from 1 19 n) n (omega (arith, not-fewer 19 1 n)) (enough 19 1 n (omega arith)) h
 
-double-back : (x : Float) → T (fits binary64 x) → double_of (pattern_text x) ≡ Double.Is x
+double-back : (x : Float) → T (fits binary64 x) → double_of (pattern_text x) ≡ Some x
 unfolding pattern_text
 double-back x f = double-read-back x f
 
@@ -70,12 +69,12 @@ tell-words n x =
 -- ---- the reader's answers
 
 -- A `tell` row is read as the `tell` of its number and its value. Every u64 and every f64 meets the two premises.
-pub told_back : (n : ℕ) (x : Float) → n < 2 ^ 64 → T (fits binary64 x) → command_of (tell_row n x) ≡ Tell n x
-unfolding tell_row command_of line_of pair_line tell_line same_bytes words_of
+pub told_back : (n : ℕ) (x : Float) → n < 2 ^ 64 → T (fits binary64 x) → command_of (tell_row n x) ≡ Some (Tell n x)
+unfolding tell_row command_of line_of pair_line tell_line words_of
 told_back n x h f = rw (tell-words n x, whole_back n h, double-back x f)
 
 -- a refusal is no line of a script, so that a script that holds it is malformed there
-pub refused-malformed : (why : ExportRefusal) → command_of (refused_row why) ≡ Malformed
-unfolding refused_row command_of line_of pair_line file_line same_bytes words_of
+pub refused-malformed : (why : ExportRefusal) → command_of (refused_row why) ≡ None
+unfolding refused_row command_of line_of pair_line file_line words_of
 refused-malformed (MalformedLine k) = rw (fourteen, word-alone (whole_text k) (whole-spaceless k))
 refused-malformed ShortHistory = rw fifteen

@@ -1,5 +1,5 @@
 -- The rows that are written, as bytes.
-use Rattle.std.specs.Prelude.{ℕ, zero, suc, ◌-◌, ◌^◌, cond, List, [], ◌∷◌, ◌++◌, ltb, Float, take, drop}
+use Rattle.std.specs.Prelude.{ℕ, zero, suc, ◌^◌, cond, List, [], ◌∷◌, ◌++◌, ltb, Float, codes}
 use Prim.Native.Char.{code}
 use Rattle.std.specs.Float.{binary64}
 use Rattle.std.specs.Float.Ieee.{to_bits}
@@ -7,7 +7,6 @@ use Rattle.io.specs.Digits.{last_digits}
 use Rattle.metrics.specs.declared.ExportRefusal.{ExportRefusal}
 use Rattle.metrics.specs.declared.ExportRefusal.TheVariants.{MalformedLine, ShortHistory}
 use Rattle.metrics.specs.Export.{export_refusal_number}
-use Rattle.script.specs.Words.{bytes}
 
 -- the least number of digits, from k on, that hold n; k + more where none before it do
 unfoldable pub places_from : ℕ → ℕ → ℕ → ℕ
@@ -28,7 +27,7 @@ ended row = row ++ code "\n" ∷ []
 
 -- `tell TRIAL VALUE`; "Words are separated by one space" (docs/SCRIPTS.md)
 unfoldable pub tell_row : ℕ → Float → List ℕ
-tell_row number value = bytes "tell " ++ (whole_text number ++ (bytes " " ++ pattern_text value))
+tell_row number value = codes "tell " ++ (whole_text number ++ (codes " " ++ pattern_text value))
 
 -- "`tell TRIAL VALUE` appends an entry to the history" (docs/SCRIPTS.md): the line of an entry
 unfoldable pub tell_text : ℕ → Float → List ℕ
@@ -36,12 +35,12 @@ tell_text number value = ended (tell_row number value)
 
 -- "14, the first malformed line, carries its number from 1" (document 02, W3); 15 carries nothing
 abbrev pub carried : ExportRefusal → List ℕ
-carried (MalformedLine line) = bytes " " ++ whole_text line
+carried (MalformedLine line) = codes " " ++ whole_text line
 carried ShortHistory = []
 
 -- "`refused K`" (docs/SCRIPTS.md), K the number of the check that failed, and what that carries (document 02, W3)
 unfoldable pub refused_row : ExportRefusal → List ℕ
-refused_row why = bytes "refused " ++ (whole_text (export_refusal_number why) ++ carried why)
+refused_row why = codes "refused " ++ (whole_text (export_refusal_number why) ++ carried why)
 
 -- the line of a refusal
 unfoldable pub refused_text : ExportRefusal → List ℕ
@@ -52,7 +51,3 @@ unfoldable pub tell_texts : List ℕ → List Float → List ℕ
 tell_texts [] values = []
 tell_texts (n ∷ ns) [] = []
 tell_texts (n ∷ ns) (x ∷ xs) = tell_text n x ++ tell_texts ns xs
-
--- those of the entries from one on, up to another
-abbrev pub texts_from : ℕ → ℕ → List ℕ → List Float → List ℕ
-texts_from from next numbers values = tell_texts (take (next - from) (drop from numbers)) (take (next - from) (drop from values))

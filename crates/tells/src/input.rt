@@ -1,33 +1,21 @@
 // A reader, read whole.
-ghost use Rattle.std.specs.Prelude.{length};
-ghost use Rattle.tells.specs.Input.{Within};
+ghost use Rattle.std.specs.Prelude.{◌<◌, length, IfOk, IfSome};
 
+use std::io;
 use std::io::Read;
 
-// What came of reading into a lent text.
-#[derive(Clone, Copy)]
-pub enum Input {
-    // The input is so many bytes.
-    Whole(usize),
-    // It has as many bytes as the text has places, or more.
-    Full,
-    // A read failed.
-    Failed,
-}
-
-// Reads until the input ends, which is where a read brings nothing, or until the text is full.
-pub fn read_input<R: Read>(from: &mut R, text: &mut [u8]) -> Input
-    ensures { Within (length text.new) result }
+// Reads until the input ends, which is where a read brings nothing, and answers how many bytes it is; or until the text is full, with
+// as many bytes as it has places, or more.
+pub fn read_input<R: Read>(from: &mut R, text: &mut [u8]) -> io::Result<Option<usize>>
+    ensures { IfOk result (λ size. IfSome size (λ n. n < length text.new)) }
 {
     let mut at: usize = 0;
     while at < text.len() {
-        let Ok(n) = from.read(&mut text[at..]) else {
-            return Input::Failed;
-        };
+        let n = from.read(&mut text[at..])?;
         if n == 0 {
-            return Input::Whole(at);
+            return Ok(Some(at));
         }
         at += n;
     }
-    Input::Full
+    Ok(None)
 }

@@ -9,64 +9,47 @@
 // failed is also said on standard error. The program needs 3.6 MB of stack.
 #![tactic(auto)]
 
-ghost use Rattle.std.specs.Prelude.{◌≤◌, length};
-
-use input::Input;
-use metrics::{ExportRefusal, ReadAnswer};
+use metrics::ExportRefusal;
+use std::io;
 use std::io::{Read, Write};
 
 mod input;
 mod rows;
 
-// A `tell` line for each entry, written in blocks; false where a write failed.
-fn write_tells<'a, W: Write>(to: &mut W, numbers: &'a [u64], values: &'a [f64]) -> bool
-    requires { length numbers.now ≤ length values.now }
-{
-    let mut block = [0u8; 8192];
-    let mut i: usize = 0;
-    while i < numbers.len() {
-        let f = rows::fill(&mut block, numbers, values, i);
-        let n = f.length;
-        if to.write_all(&block[..n]).is_err() {
-            return false;
-        }
-        i = f.next;
+// A `tell` line for each entry, written in blocks.
+fn write_tells<W: Write>(to: &mut W, numbers: &[u64], values: &[f64]) -> io::Result<()> {
+    let mut block = [0u8; rows::BLOCK];
+    for (numbers, values) in numbers.chunks(rows::ROWS).zip(values.chunks(rows::ROWS)) {
+        let n = rows::fill(&mut block, numbers, values);
+        to.write_all(&block[..n])?;
     }
-    true
+    Ok(())
 }
 
-fn write_refusal<W: Write>(to: &mut W, why: ExportRefusal) -> bool {
+fn write_refusal<W: Write>(to: &mut W, why: ExportRefusal) -> io::Result<()> {
     let mut row = [0u8; 32];
-    let k = rows::refused_row(&mut row, why);
-    to.write_all(&row[..k]).is_ok()
+    let n = rows::refused_row(&mut row, why);
+    to.write_all(&row[..n])
 }
 
-// The export, which is the text's first `size` bytes, read, and what it gives written.
+// The export read, and what it gives written.
+#[tactic(auto, using(metrics::proofs::Writes::writes))]
 fn answer<W: Write>(
     to: &mut W,
-    text: &[u8],
-    size: usize,
+    export: &[u8],
     numbers: &mut [u64],
     values: &mut [f64],
-) -> bool
-    requires { size ≤ length text.now }
-{
-    match metrics::read_history_slices(&text[..size], numbers, values) {
-        ReadAnswer::Count(n) => write_tells(to, &numbers[..n], &values[..n]),
-        ReadAnswer::Refused(why) => write_refusal(to, why),
+) -> io::Result<()> {
+    match metrics::read_history_slices(export, numbers, values) {
+        Ok(n) => write_tells(to, &numbers[..n], &values[..n]),
+        Err(why) => write_refusal(to, why),
     }
 }
 
 // An input that cannot be read is a line on standard output too, so that it does not pass for an empty export.
-fn write_unread<W: Write, E: Write>(to: &mut W, errors: &mut E) -> bool {
+fn write_unread<W: Write, E: Write>(to: &mut W, errors: &mut E) -> io::Result<()> {
     let _ = errors.write_all(b"tells: standard input cannot be read\n");
-    to.write_all(b"unread\n").is_ok()
-}
-
-fn finish<E: Write>(errors: &mut E, ok: bool) {
-    if !ok {
-        let _ = errors.write_all(b"tells: standard output cannot be written\n");
-    }
+    to.write_all(b"unread\n")
 }
 
 // The text is one byte longer than the input may be, so that a full text is an input that is too long.
@@ -78,12 +61,14 @@ fn run<R: Read, W: Write, E: Write>(
     numbers: &mut [u64; 65536],
     values: &mut [f64; 65536],
 ) {
-    let ok = match input::read_input(from, text) {
-        Input::Whole(n) => answer(to, text, n, numbers, values),
-        Input::Full => to.write_all(b"too long\n").is_ok(),
-        Input::Failed => write_unread(to, errors),
+    let written = match input::read_input(from, text) {
+        Ok(Some(n)) => answer(to, &text[..n], numbers, values),
+        Ok(None) => to.write_all(b"too long\n"),
+        Err(_) => write_unread(to, errors),
     };
-    finish(errors, ok)
+    if written.is_err() {
+        let _ = errors.write_all(b"tells: standard output cannot be written\n");
+    }
 }
 
 fn main(rt: HostRuntime) {

@@ -1,16 +1,14 @@
 // The rows that are written, each put at a place of a lent block.
-ghost use Rattle.std.specs.Prelude.{◌+◌, ◌≤◌, ◌<◌, ◌≡◌, ◌++◌, length, take};
+ghost use Rattle.std.specs.Prelude.{◌+◌, ◌*◌, ◌≤◌, ◌≡◌, ◌++◌, length, take};
 ghost use Rattle.io.specs.Counts.{IsPrefixLen};
-ghost use Rattle.tells.specs.Text.{whole_text, pattern_text, tell_text, refused_text, texts_from};
+ghost use Rattle.tells.specs.Text.{whole_text, pattern_text, tell_text, refused_text, tell_texts};
 
 use metrics::ExportRefusal;
 
-// The first `length` bytes of a block hold rows, the last of them of the entry before `next`.
-#[derive(Clone, Copy)]
-pub struct Filled {
-    pub next: usize,
-    pub length: usize,
-}
+// The rows of so many entries have a place in a block, since the longest has 43 bytes.
+pub const BLOCK: usize = 8192;
+
+pub const ROWS: usize = BLOCK / 43;
 
 // Puts text at `at`, and returns where it ends.
 fn put(block: &mut [u8], at: usize, text: &[u8]) -> usize
@@ -58,6 +56,7 @@ pub fn tell_row(block: &mut [u8], at: usize, number: u64, value: f64) -> usize
 }
 
 // `refused 14 LINE` or `refused 15`, and a line feed, 32 bytes at most.
+#[tactic(auto, using(crate::proofs::Joined::refused))]
 pub fn refused_row(row: &mut [u8], why: ExportRefusal) -> usize
     requires { 32 ≤ length row.old }
     ensures few { IsPrefixLen result row.new }
@@ -73,22 +72,16 @@ pub fn refused_row(row: &mut [u8], why: ExportRefusal) -> usize
     }
 }
 
-// Rows of the entries from `from` on, as many as the block has room for.
-pub fn fill<'a>(block: &mut [u8], numbers: &'a [u64], values: &'a [f64], from: usize) -> Filled
-    requires in_bounds { 43 ≤ length block.old }
-    requires from_in_bounds { from < length numbers.now }
-    requires numbers_in_bounds { length numbers.now ≤ length values.now }
-    ensures few { (from < result.next) × (result.next ≤ length numbers.now) × IsPrefixLen result.length block.new }
-    ensures text { take result.length block.new ≡ texts_from from result.next numbers.now values.now }
+// The rows of entries, one behind the other, and how many bytes they are.
+#[tactic(auto, using(crate::proofs::Joined::behind))]
+pub fn fill(block: &mut [u8], numbers: &[u64], values: &[f64]) -> usize
+    requires { 43 * length numbers.now ≤ length block.old }
+    ensures few { IsPrefixLen result block.new }
+    ensures text { take result block.new ≡ tell_texts numbers.now values.now }
 {
     let mut length: usize = 0;
-    let mut next = from;
-    while next < numbers.len() {
-        if block.len() - length < 43 {
-            break;
-        }
-        length = tell_row(block, length, numbers[next], values[next]);
-        next += 1;
+    for (number, value) in numbers.iter().zip(values) {
+        length = tell_row(block, length, *number, *value);
     }
-    Filled { next, length }
+    length
 }

@@ -1,8 +1,7 @@
 // What an answer says, and whether a refusal left the state as it was.
-use de::build::Built;
-use de::{Answer, Sampled};
-use distribution::Refusal;
-use slots::LookAnswer;
+use de::Sampled;
+use distribution::{ParamValue, Refusal};
+use evolution::Setup;
 use state::State;
 
 // Document 01's number of a refusal.
@@ -24,57 +23,57 @@ fn number(r: Refusal) -> u64 {
 }
 
 // The set-up is refused with this number.
-pub fn build_refused(b: Built, n: u64) -> bool {
+pub fn build_refused(b: Result<Setup, Refusal>, n: u64) -> bool {
     match b {
-        Built::Accepted(_) => false,
-        Built::Refused(r) => number(r) == n,
+        Ok(_) => false,
+        Err(r) => number(r) == n,
     }
 }
 
-pub fn built(b: Built) -> bool {
+pub fn built(b: Result<Setup, Refusal>) -> bool {
     match b {
-        Built::Accepted(_) => true,
-        Built::Refused(_) => false,
+        Ok(_) => true,
+        Err(_) => false,
     }
 }
 
-pub fn has_setting(a: Answer) -> bool {
+pub fn has_setting(a: Result<ParamValue, Refusal>) -> bool {
     match a {
-        Answer::Setting(_) => true,
-        Answer::Refused(_) => false,
+        Ok(_) => true,
+        Err(_) => false,
     }
 }
 
-fn is_refusal(a: Answer, n: u64) -> bool {
+fn is_refusal(a: Result<ParamValue, Refusal>, n: u64) -> bool {
     match a {
-        Answer::Setting(_) => false,
-        Answer::Refused(r) => number(r) == n,
+        Ok(_) => false,
+        Err(r) => number(r) == n,
     }
 }
 
 // The look call is refused with this number.
-pub fn look_refused(l: LookAnswer, n: u64) -> bool {
+pub fn look_refused(l: Result<Option<usize>, Refusal>, n: u64) -> bool {
     match l {
-        LookAnswer::Refused(r) => number(r) == n,
-        LookAnswer::Nothing => false,
-        LookAnswer::Best(_) => false,
+        Err(r) => number(r) == n,
+        Ok(None) => false,
+        Ok(Some(_)) => false,
     }
 }
 
 // The look call gives this slot as the best.
-pub fn look_best(l: LookAnswer, slot: usize) -> bool {
+pub fn look_best(l: Result<Option<usize>, Refusal>, slot: usize) -> bool {
     match l {
-        LookAnswer::Refused(_) => false,
-        LookAnswer::Nothing => false,
-        LookAnswer::Best(b) => b == slot,
+        Err(_) => false,
+        Ok(None) => false,
+        Ok(Some(b)) => b == slot,
     }
 }
 
-pub fn look_nothing(l: LookAnswer) -> bool {
+pub fn look_nothing(l: Result<Option<usize>, Refusal>) -> bool {
     match l {
-        LookAnswer::Refused(_) => false,
-        LookAnswer::Nothing => true,
-        LookAnswer::Best(_) => false,
+        Err(_) => false,
+        Ok(None) => true,
+        Ok(Some(_)) => false,
     }
 }
 

@@ -2,7 +2,7 @@
 use de::Sampled;
 use de::build::{DESamplerBuilder, new_state};
 use de::sample::sample_slices;
-use distribution::{Distribution, FloatDistribution, FloatStep};
+use distribution::{Distribution, FloatDistribution};
 use state::State;
 
 // Float 0..1.
@@ -11,7 +11,7 @@ pub fn unit_interval() -> Distribution {
         low: 0.0,
         high: 1.0,
         log_scale: false,
-        step: FloatStep::Unset,
+        step: None,
     })
 }
 

@@ -23,14 +23,14 @@ fn are(values: [f64; 160], expected: [f64; 4]) -> bool {
 
 // The look call gives four values, these, and this best slot and these counts.
 fn seen(state: State, values: [f64; 4], best: usize, closed: u32, idle: u32) -> bool {
-    let l = look(state);
+    let l = look(&state);
     let answer = l.look;
     let held = l.values;
     look_best(answer, best) && l.n == 4 && are(held, values) && l.closed == closed && l.idle == idle
 }
 
 fn nothing(state: State) -> bool {
-    let l = look(state);
+    let l = look(&state);
     let answer = l.look;
     look_nothing(answer)
 }

@@ -1,8 +1,6 @@
 // The published SplitMix64 outputs, and the bench figures of the generator, rounding, mapping and history.
 use crate::show::figure;
-use distribution::{
-    Distribution, FloatDistribution, FloatStep, IntDistribution, IntStep, ParamValue,
-};
+use distribution::{Distribution, FloatDistribution, IntDistribution, ParamValue};
 use std::io;
 
 // The published outputs of seed 1234567, a line each.
@@ -68,13 +66,13 @@ pub fn steps(rt: &impl Print) -> io::Result<()> {
         low: 0.0,
         high: 1.0,
         log_scale: false,
-        step: FloatStep::By(0.25),
+        step: Some(0.25),
     });
     let fours = Distribution::Int(IntDistribution {
         low: 1,
         high: 11,
         log_scale: false,
-        step: IntStep::By(4),
+        step: Some(4),
     });
     figure(
         rt,

@@ -2,10 +2,12 @@
 use crate::answers::{build_refused, built};
 use crate::calls::discovered;
 use crate::show::figure;
-use de::build::{Built, DESamplerBuilder};
+use de::build::DESamplerBuilder;
+use distribution::Refusal;
+use evolution::Setup;
 use std::io;
 
-fn with_size(size: u64) -> Built {
+fn with_size(size: u64) -> Result<Setup, Refusal> {
     DESamplerBuilder::new().population_size(size).build()
 }
 

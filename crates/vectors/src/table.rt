@@ -4,9 +4,7 @@ use crate::calls::{call, discovered, fresh, unit_interval};
 use crate::show::figure;
 use de::build::DESamplerBuilder;
 use de::sample::sample_slices;
-use distribution::{
-    CategoricalDistribution, Distribution, FloatDistribution, FloatStep, IntDistribution, IntStep,
-};
+use distribution::{CategoricalDistribution, Distribution, FloatDistribution, IntDistribution};
 use slots::look;
 use state::State;
 use std::io;
@@ -19,7 +17,7 @@ pub fn setups(rt: &impl Print) -> io::Result<()> {
     figure(rt, "CR = -0.1 is 2", build_refused(low, 2))
 }
 
-fn int(low: i64, high: i64, step: IntStep) -> Distribution {
+fn int(low: i64, high: i64, step: Option<i64>) -> Distribution {
     Distribution::Int(IntDistribution {
         low,
         high,
@@ -36,14 +34,14 @@ fn distribution_refused(state: State, d: Distribution, n: u64) -> bool {
 // 4 to 7, each a first call.
 pub fn distributions(rt: &impl Print) -> io::Result<()> {
     let state = fresh(4);
-    let upside_down = int(3, 2, IntStep::Unset);
+    let upside_down = int(3, 2, None);
     let logarithmic = Distribution::Float(FloatDistribution {
         low: 1.0,
         high: 10.0,
         log_scale: true,
-        step: FloatStep::Unset,
+        step: None,
     });
-    let still = int(1, 9, IntStep::By(0));
+    let still = int(1, 9, Some(0));
     let empty = Distribution::Categorical(CategoricalDistribution { n_choices: 0 });
     figure(
         rt,
@@ -69,7 +67,7 @@ pub fn states(rt: &impl Print) -> io::Result<()> {
     state.n = 3;
     let s = call(state, unit_interval(), 3);
     figure(rt, "N = 3 after discovery is 0", refused(state, s, 0))?;
-    let l = look(state);
+    let l = look(&state);
     let answer = l.look;
     figure(rt, "look at N = 3 is 0", look_refused(answer, 0))
 }

@@ -1,19 +1,12 @@
--- `fill` meets its contract: each row takes 43 bytes at most, so that a block without room for one
--- more holds one; what the block holds grows by one row (`rows_next`).
-use Prim.Native.Nat.{◌≤◌, ◌-◌, ◌*◌}
-use mathlib.Core.Path.{◌≡◌}
-use lib.ListN.{length, take}
-use Rattle.tells.specs.Text.{texts_from}
+-- The rows of the entries that are left, behind those in the block, make the rows of all. Each takes 43 bytes at most.
+use Rattle.std.proofs.Common.{◌≡◌, ◌+◌, ◌*◌, ◌≤◌, ◌++◌, length, take}
+use Rattle.std.specs.Iterator.Adapters.{zip_first, zip_second}
+use Rattle.std.specs.Slice.Iter.{iter_rest}
+use Rattle.tells.specs.Text.{tell_texts}
 use Rattle.tells.proofs.rows.fill.Given as goal
 
-abbrev pub invariant-loop-next : goal.invariant-loop-next
-invariant-loop-next l = record {
-  after : l.from ≤ l.next;
-  within : l.next ≤ length l.numbers;
-  fits : l.length ≤ length l.block;
-  few : l.length ≤ 43 * (l.next - l.from);
-  rows : take l.length l.block ≡ texts_from l.from l.next l.numbers l.values;
-}
-
-abbrev pub decreases-loop-next : goal.decreases-loop-next
-decreases-loop-next l = length l.numbers - l.next
+abbrev pub invariant-loop-number : goal.invariant-loop-number
+invariant-loop-number l =
+    let numbers = iter_rest (zip_first l.number-iterator) in
+    let values = iter_rest (zip_second l.number-iterator) in
+    (l.length + 43 * length numbers ≤ 43 * length l.numbers) × (take l.length l.block ++ tell_texts numbers values ≡ tell_texts l.numbers l.values)

@@ -1,14 +1,10 @@
--- `tell_row` meets its contract, by `tell-is`.
-use native.Mathlib.Omega.{arith}
-use lib.ListN.{take}
+-- Each text stands behind those before it.
+use Rattle.std.proofs.Common.{take, ◌∙◌}
 use Rattle.tells.proofs.Joined.{tell-is}
 use Rattle.tells.proofs.rows.tell_row.Goals as goal
 
-pub returns : goal.returns
-returns c =
+pub returns-clause-text : goal.returns-clause-text
+returns-clause-text c =
     let a = c.args in
-    let joined = tell-is a.number a.value (take a.at a.block.now) in
-    record {
-      few = omega arith;
-      text = joined _ _ _ _ _ c.put-a.ensures.text c.put_whole-b.ensures.text c.put-c.ensures.text c.put_double-d.ensures.text c.put.ensures.text;
-    }
+    c.put.ensures.text
+    ∙ rw (c.put_double-d.ensures.text, c.put-c.ensures.text, c.put_whole-b.ensures.text, c.put-a.ensures.text) (tell-is a.number a.value (take a.at a.block.now))
