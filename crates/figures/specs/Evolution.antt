@@ -1,6 +1,6 @@
 -- The starred bench figures of mutation, selection, best slot and size (document 01, "Bench figures"), for any other entries and candidates.
 -- Where the code's contracts and demand 2's definition (the ledger's, over the kernel `de`) have a definition each, the figure is given for both.
-use Rattle.std.specs.Prelude.{ℕ, ◌≡◌, false, List, [], ◌∷◌, map, Float}
+use Rattle.std.specs.Prelude.{ℕ, ◌≡◌, false, List, [], ◌∷◌, map, Float, Some, None}
 use Rattle.std.specs.Float.{inf}
 use Rattle.ledger.specs.Kernel.{Parent}
 use Rattle.ledger.specs.Closing.{best_of, new_parents}
@@ -8,7 +8,6 @@ use Rattle.candidates.specs.declared.Candidate.{Candidate}
 use Rattle.evolution.specs.Mutant.{mutant_entry}
 use Rattle.evolution.specs.declared.Member.{Member}
 use Rattle.evolution.specs.declared.DEStrategy.TheVariants.{Rand1, CurrentToBest1}
-use Rattle.evolution.specs.declared.PopulationSize.TheVariants.{Unset, Of}
 use Rattle.selection.specs.Select.{survivor_of}
 use Rattle.selection.specs.Best.{best_slot}
 use Rattle.selection.specs.Size.{size_of}
@@ -59,5 +58,5 @@ Bests = (map best_slot two_rows ≡ 1 ∷ 0 ∷ []) × (map best_of two_rows ≡
 -- "Unset, n = 0, 1, 2, 16: 15, 15, 20, 160. User 0, 3, 5: 4, 4, 5."
 abbrev pub Sizes : Type 0
 Sizes =
-    (map (size_of Unset) (0 ∷ 1 ∷ 2 ∷ 16 ∷ []) ≡ 15 ∷ 15 ∷ 20 ∷ 160 ∷ [])
-    × ((n : ℕ) → map (λ (k : ℕ). size_of (Of k) n) (0 ∷ 3 ∷ 5 ∷ []) ≡ 4 ∷ 4 ∷ 5 ∷ [])
+    (map (size_of None) (0 ∷ 1 ∷ 2 ∷ 16 ∷ []) ≡ 15 ∷ 15 ∷ 20 ∷ 160 ∷ [])
+    × ((n : ℕ) → map (λ (k : ℕ). size_of (Some k) n) (0 ∷ 3 ∷ 5 ∷ []) ≡ 4 ∷ 4 ∷ 5 ∷ [])

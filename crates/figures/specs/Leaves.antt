@@ -1,12 +1,9 @@
 -- The starred bench figures of the generator, rounding, mapping and history (document 01, "Bench figures").
-use Rattle.std.specs.Prelude.{ℕ, ◌-◌, ◌+◌, ◌^◌, ◌≡◌, true, false, List, [], ◌∷◌, map, pos, negsuc, Float}
-use Rattle.std.proofs.Math.Option.{none, some}
+use Rattle.std.specs.Prelude.{ℕ, ◌-◌, ◌+◌, ◌^◌, ◌≡◌, true, false, List, [], ◌∷◌, map, pos, negsuc, Float, Some, None}
 use Rattle.std.specs.Float.{fin, binary64}
 use Rattle.std.specs.Float.Ieee.{round}
 use Rattle.rng_util.specs.Draws.{unit_of, usize_of, range_of}
 use Rattle.rounding.specs.Round.{round_away}
-use Rattle.distribution.specs.declared.FloatStep.TheVariants as F
-use Rattle.distribution.specs.declared.IntStep.TheVariants as I
 use Rattle.distribution.specs.declared.Distribution.{Distribution}
 use Rattle.distribution.specs.declared.Distribution.TheVariants as D
 use Rattle.distribution.specs.declared.ParamValue.TheVariants as P
@@ -48,10 +45,10 @@ Range = range_of (fin false 1 (pos 0)) after_one (fin false 3 (negsuc 1)) ≡ af
 -- Float 0..1 step 0.25, and Int 1..11 step 4
 unfoldable pub quarters : Distribution
 unfolding dec
-quarters = D.Float (record { low = dec 0 0; high = dec 1 0; log_scale = false; step = F.By (dec 25 2) })
+quarters = D.Float (record { low = dec 0 0; high = dec 1 0; log_scale = false; step = Some (dec 25 2) })
 
 unfoldable pub fours : Distribution
-fours = D.Int (record { low = pos 1; high = pos 11; log_scale = false; step = I.By (pos 4) })
+fours = D.Int (record { low = pos 1; high = pos 11; log_scale = false; step = Some (pos 4) })
 
 -- "Float 0..1 step 0.25: 0.625 gives 0.75. Int 1..11 step 4: 11 gives 11, 8 gives 9."
 abbrev pub Steps : Type 0
@@ -66,4 +63,4 @@ twice = record { number = 7; value = dec 5 0 } ∷ record { number = 7; value = 
 
 -- as the code's history says it, and as demand 2's definition reads it
 abbrev pub History : Type 0
-History = (last_value 7 twice ≡ some (dec 2 0)) × (scan de twice 7 none ≡ some (dec 2 0))
+History = (last_value 7 twice ≡ Some (dec 2 0)) × (scan de twice 7 None ≡ Some (dec 2 0))
