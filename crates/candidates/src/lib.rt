@@ -119,11 +119,9 @@ fn random_entries(space: &Space, rng: &mut Gen) -> [f64; 16]
     requires { (space.now.n ≤ 16) × (rng.old.draws < 2 ^ 62) }
     ensures { made result rng.new ≡ padded 16 zero_f (random_entries space.now rng.old) }
 {
-    let mut x = [0.0; 16];
-    for j in 0..space.n {
-        x[j] = sample_random_internal(space.bounds[j], rng);
-    }
-    x
+    rng_util::many(0.0, space.n, rng, |j, rng| {
+        sample_random_internal(space.bounds[j], rng)
+    })
 }
 
 // One of k choices; 0, without a draw, where there are none.
@@ -143,11 +141,9 @@ pub fn random_choices(space: &Space, rng: &mut Gen) -> [u16; 16]
     requires { (space.now.n_dims ≤ 16) × (rng.old.draws < 2 ^ 62) }
     ensures { made result rng.new ≡ padded 16 0 (random_choices space.now rng.old) }
 {
-    let mut choices = [0; 16];
-    for i in 0..space.n_dims {
-        choices[i] = random_choice(space.counts[i], rng);
-    }
-    choices
+    rng_util::many(0, space.n_dims, rng, |i, rng| {
+        random_choice(space.counts[i], rng)
+    })
 }
 
 // A random candidate: entries, then choices.
@@ -165,11 +161,9 @@ pub fn generate_initial_population(space: &Space, n: usize, rng: &mut Gen) -> [C
     requires { (n ≤ 160) × (space.now.n ≤ 16) × (space.now.n_dims ≤ 16) × (rng.old.draws < 2 ^ 60) }
     ensures { made result rng.new ≡ padded 224 blank_candidate (random_candidates space.now n rng.old) }
 {
-    let mut candidates = [Candidate::blank(); 224];
-    for candidate in &mut candidates[..n] {
-        *candidate = random_candidate(space, rng);
-    }
-    candidates
+    rng_util::many(Candidate::blank(), n, rng, |_, rng| {
+        random_candidate(space, rng)
+    })
 }
 
 // Whether an entry is NaN.

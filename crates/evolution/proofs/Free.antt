@@ -20,12 +20,12 @@ use Rattle.evolution.specs.Select.{is_free, lowest_free, select_from}
 eqb_flip : (a b : ℕ) → eqb a b ≡ eqb b a
 eqb_flip a b = grind (arith, nat_tests)
 
-pub free_is : (ts : List ℕ) (r : ℕ) → not (list_any (λ (t : ℕ). eqb t r) ts) ≡ is_free ts r
+pub free_is : (ts : List ℕ) (r : ℕ) → is_free ts r ≡ not (list_any (λ (t : ℕ). eqb t r) ts)
 unfolding is_free
 free_is [] r = refl
 free_is (t ∷ ts) r = rw (eqb_flip t r) (go (eqb r t) (free_is ts r))
   where
-    go : (b : Bool) → not (list_any (λ (t : ℕ). eqb t r) ts) ≡ is_free ts r → not (b || list_any (λ (t : ℕ). eqb t r) ts) ≡ cond b false (is_free ts r)
+    go : (b : Bool) → is_free ts r ≡ not (list_any (λ (t : ℕ). eqb t r) ts) → cond b false (is_free ts r) ≡ not (b || list_any (λ (t : ℕ). eqb t r) ts)
     go true e = refl
     go false e = e
 

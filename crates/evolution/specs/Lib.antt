@@ -3,3 +3,4 @@ pub mod Mutant
 pub mod Cross
 pub mod Trial
 pub mod Paper
+pub mod Strategy

@@ -18,11 +18,23 @@ use candidates::{Candidate, Space};
 use common::Bounds;
 use rng_util::Gen;
 
+// In the order of their numbers 0 to 2.
 #[derive(Clone, Copy)]
 pub enum DEStrategy {
     Rand1,
     Best1,
     CurrentToBest1,
+}
+
+impl DEStrategy {
+    ghost use Rattle.evolution.specs.Strategy.{strategy_number};
+
+    // The number that C and a saved file know a strategy by.
+    pub fn number(self) -> u64
+        ensures { result ≡ strategy_number self }
+    {
+        self as u64
+    }
 }
 
 // The seed is the generator's first word.
@@ -43,7 +55,8 @@ pub struct Member {
     pub value: f64,
 }
 
-// The slots that a mutant is made of.
+// The slots that a mutant is made of. `r3` is no Option: each entry of a mutant reads three slots, and two of the three
+// strategies pass over the third, so a None would have to be taken for some slot all the same.
 #[derive(Clone, Copy)]
 pub struct Indices {
     pub r1: usize,
@@ -91,11 +104,9 @@ fn crossover(
     requires { (space.now.n ≤ 16) × (rng.old.draws < 2 ^ 62) }
     ensures { made result rng.new ≡ padded 16 zero_f (crossed rate j_rand (in_row mutant.now) (in_row parent.now) space.now rng.old) }
 {
-    let mut x = [0.0; 16];
-    for j in 0..space.n {
-        x[j] = cross_entry(rate, j, j_rand, mutant[j], parent[j], space.bounds[j], rng);
-    }
-    x
+    rng_util::many(0.0, space.n, rng, |j, rng| {
+        cross_entry(rate, j, j_rand, mutant[j], parent[j], space.bounds[j], rng)
+    })
 }
 
 // The trial vector of slot i: mutation, crossover, then choices.
@@ -107,7 +118,9 @@ fn trial_vector(
     space: &Space,
     rng: &mut Gen,
 ) -> Candidate
-    requires { (4 ≤ length parents.now) × (best < length parents.now) × (i < length parents.now) × (0 < space.now.n) × (space.now.n ≤ 16) × (space.now.n_dims ≤ 16) × (rng.old.draws < 2 ^ 60) }
+    requires slots { (4 ≤ length parents.now) × (best < length parents.now) × (i < length parents.now) }
+    requires dims { (0 < space.now.n) × (space.now.n ≤ 16) × (space.now.n_dims ≤ 16) }
+    requires draws { rng.old.draws < 2 ^ 60 }
     ensures { made result rng.new ≡ trial_of setup.now (entries parents.now) (length parents.now) best space.now i rng.old }
 {
     let mutant = create_mutant_with_rng(setup, parents, best, i, space.n, rng);
@@ -126,14 +139,14 @@ pub fn generate_trial_vectors(
     space: &Space,
     rng: &mut Gen,
 ) -> [Candidate; 224]
-    requires { (4 ≤ length parents.now) × (length parents.now ≤ 160) × (best < length parents.now) × (0 < space.now.n) × (space.now.n ≤ 16) × (space.now.n_dims ≤ 16) × (rng.old.draws < 2 ^ 59) }
+    requires slots { (4 ≤ length parents.now) × (length parents.now ≤ 160) × (best < length parents.now) }
+    requires dims { (0 < space.now.n) × (space.now.n ≤ 16) × (space.now.n_dims ≤ 16) }
+    requires draws { rng.old.draws < 2 ^ 59 }
     ensures { made result rng.new ≡ padded 224 blank_candidate (trial_vectors setup.now parents.now best space.now rng.old) }
 {
-    let mut candidates = [Candidate::blank(); 224];
-    for i in 0..parents.len() {
-        candidates[i] = trial_vector(setup, parents, best, i, space, rng);
-    }
-    candidates
+    rng_util::many(Candidate::blank(), parents.len(), rng, |i, rng| {
+        trial_vector(setup, parents, best, i, space, rng)
+    })
 }
 
 // The candidates of a later generation: trial vectors if there is a continuous dimension, else random candidates.
@@ -145,7 +158,9 @@ pub fn next_candidates(
     space: &Space,
     rng: &mut Gen,
 ) -> [Candidate; 224]
-    requires { (4 ≤ length parents.now) × (length parents.now ≤ 160) × (best < length parents.now) × (space.now.n ≤ 16) × (space.now.n_dims ≤ 16) × (rng.old.draws < 2 ^ 59) }
+    requires slots { (4 ≤ length parents.now) × (length parents.now ≤ 160) × (best < length parents.now) }
+    requires dims { (space.now.n ≤ 16) × (space.now.n_dims ≤ 16) }
+    requires draws { rng.old.draws < 2 ^ 59 }
     ensures { made result rng.new ≡ padded 224 blank_candidate (next_candidates setup.now parents.now best space.now rng.old) }
 {
     if space.n == 0 {

@@ -30,7 +30,8 @@ fn create_mutant(
     n: usize,
     t: Indices,
 ) -> [f64; 16]
-    requires { (best < length parents.now) × (target < length parents.now) × (n ≤ 16) × (t.r1 < length parents.now) × (t.r2 < length parents.now) × (t.r3 < length parents.now) }
+    requires slots { (best < length parents.now) × (target < length parents.now) × (n ≤ 16) }
+    requires drawn { (t.r1 < length parents.now) × (t.r2 < length parents.now) × (t.r3 < length parents.now) }
     ensures { result ≡ pad_to 16 zero_f (mutant_of setup.now (entries parents.now) best target n t) }
 {
     let x = &parents[target].candidate.x;

@@ -7,6 +7,7 @@ use crate::{DEStrategy, Indices};
 use rng_util::Gen;
 
 // Whether i is none of those taken.
+#[tactic(auto, using(crate::proofs::Free::free_is))]
 fn is_free(taken: &[usize], i: usize) -> bool
     ensures { result ≡ is_free taken.now i }
 {
@@ -34,7 +35,7 @@ fn select_random_index(n: usize, taken: &[usize], rng: &mut Gen) -> usize
     lowest_free(taken)
 }
 
-// Three for Rand1, two otherwise.
+// Three for Rand1, two otherwise. Kept: draws need a count, and the enum is asked for it here alone.
 pub fn index_count(strategy: DEStrategy) -> usize
     ensures { result ≡ index_count strategy }
 {

@@ -92,23 +92,6 @@ module _ {A : Type 0} (make : ℕ → Gen → Made A) where
           ∙ ap (padded N d) (sym (many-last i 0 g₀))
           ∙ ap (λ (n : ℕ). padded N d (many make n 0 g₀)) (sym (add-one i))
 
-      pub padded_draws : (c : ℕ) → ((j : ℕ) (f : Gen) → (make j f).after.draws ≤ f.draws + c) → g.draws ≤ g₀.draws + i * c
-      padded_draws c few = omega (arith, drew e, many-draws c few i 0 g₀)
-
-    -- n of an array's N places are lent to the loop
-    pub padded_lent : (n : ℕ) → n ≤ N → made (take n (replicate N d)) g₀ ≡ padded n d (many make 0 0 g₀)
-    unfolding many
-    padded_lent n h = rw (take-replicate, sub-zero n)
-
-    -- and all are filled
-    pub padded_all : (n i : ℕ) (arr : List A) (g : Gen) → n ≤ N → n ≡ i → made arr g ≡ padded n d (many make i 0 g₀) → made (arr ++ drop n (replicate N d)) g ≡ padded N d (many make n 0 g₀)
-    padded_all n i arr g h e p =
-        let k : length (many make n 0 g₀).out ≡ n = many-length n 0 g₀ in
-        let none : n - length (many make n 0 g₀).out ≡ 0 = omega arith in
-        (λ t. made ((p t).out ++ drop n (replicate N d)) (p t).after)
-        ∙ ap (λ (j : ℕ). made (pad_to n d (many make j 0 g₀).out ++ drop n (replicate N d)) (many make j 0 g₀).after) (sym e)
-        ∙ rw (none, k, append-nil, drop-replicate)
-
 -- without draws
 module _ {A : Type 0} (f : ℕ → A) where
   pub listed-length : (k i : ℕ) → length (listed f k i) ≡ k

@@ -2,10 +2,13 @@
 // that the sampler makes. One output is one draw.
 #![tactic(auto)]
 
-ghost use Rattle.std.specs.Prelude.{◌≡◌, ◌*◌, ◌%◌, ◌^◌, ◌<◌, ◌≤◌, ◌≤ℤ◌, unsigned_abs};
+ghost use Rattle.std.specs.Prelude.{◌≡◌, ℕ, ◌*◌, ◌%◌, ◌^◌, ◌<◌, ◌≤◌, ◌≤ℤ◌, unsigned_abs};
 ghost use Rattle.rng_util.specs.SplitMix.{drawn, mixed};
 ghost use Rattle.rng_util.specs.Draws.{unit_of, usize_of, i64_of, range_of};
-ghost use Rattle.rng_util.specs.Gen.{fresh, draw_of, made};
+ghost use Rattle.rng_util.specs.Gen.{fresh, draw_of, Made, made};
+ghost use Rattle.rng_util.specs.Many.{padded, many};
+ghost use Rattle.rng_util.specs.Calls.{DrawsFew, MakesBy};
+ghost use Rattle.rng_util.specs.declared.Gen.{Gen};
 
 // The new word, and the output that belongs to it.
 #[derive(Clone, Copy)]
@@ -42,7 +45,7 @@ impl Gen {
     }
 }
 
-// a × b modulo 2^64.
+// a × b modulo 2^64: std's method, under the helper that document 01 asks for.
 pub fn wrapping_mul(a: u64, b: u64) -> u64
     ensures { result ≡ (a * b) % 2 ^ 64 }
 {
@@ -100,4 +103,23 @@ pub fn f64_range(low: f64, high: f64, u: f64) -> f64
     ensures { result ≡ range_of low high u }
 {
     low + u * (high - low)
+}
+
+// n things made in order, each from the generator that the one before it left; the places after them are `blank`.
+#[inline]
+pub fn many<T: Copy, const N: usize, F: Fn(usize, &mut Gen) -> T>(
+    blank: T,
+    n: usize,
+    rng: &mut Gen,
+    make: F,
+) -> [T; N]
+    requires fits { n ≤ N }
+    requires few { DrawsFew F.Fn make n rng.old }
+    ensures { (f : ℕ → Gen → Made T) → MakesBy F.Fn make n f → made result rng.new ≡ padded N blank (many f n 0 rng.old) }
+{
+    let mut things = [blank; N];
+    for i in 0..n {
+        things[i] = make(i, rng);
+    }
+    things
 }

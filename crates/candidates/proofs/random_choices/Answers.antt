@@ -1,21 +1,27 @@
-use Rattle.std.proofs.Common.{refl, arith}
-use borrow.Author.Rules.{rules}
-use Rattle.rng_util.specs.Many.{many}
-use Rattle.rng_util.proofs.Parts.{padded_more, padded_draws}
-use Rattle.candidates.specs.Random.{random_choices}
+-- `random_choices` meets its contract: at most one draw for each choice.
+use Rattle.std.proofs.Common.{◌≡◌, ◌^◌, get_or, rules, arith}
+use Rattle.rng_util.specs.Gen.{made}
+use Rattle.rng_util.proofs.Parts.{drew}
+use Rattle.candidates.specs.Random.{choice_at, random_choices}
 use Rattle.candidates.proofs.Draws.{choice-draws}
 use Rattle.candidates.proofs.random_choices.Goals as goal
 
-pub loop-i-init : goal.loop-i-init
-unfolding many
-loop-i-init c = refl
-
-pub random_choice-requires : goal.random_choice-requires
-random_choice-requires c = omega (arith, padded_draws _ 16 0 _ _ _ _ c.loop-i.invariant 1 (λ i f. choice-draws _ f))
-
-pub loop-i-preserved : goal.loop-i-preserved
-loop-i-preserved c = padded_more _ 16 0 _ _ _ _ c.loop-i.invariant _ _ (omega arith) c.random_choice.ensures
+pub many-requires : goal.many-requires
+many-requires c =
+    let f = choice_at c.args.space.now in (
+      omega arith,
+      (
+        c.requires.0,
+        record {
+          cost = 1;
+          most = 2 ^ 63;
+          room = omega arith;
+          takes = λ i p h l. search rules;
+          draws = λ i p q v h d. let is : made v q.now ≡ f i p.now = search rules in omega (arith, drew is, choice-draws (get_or c.args.space.now.counts i 0) p.now);
+        },
+      ),
+    )
 
 pub returns : goal.returns
 unfolding random_choices
-returns c = search rules
+returns c = c.many.ensures (choice_at c.args.space.now) (λ i p q v h d. search rules)

@@ -1,22 +1,27 @@
-use Rattle.std.proofs.Common.{refl, arith}
-use borrow.Author.Rules.{rules}
-use Rattle.rng_util.specs.Many.{many}
-use Rattle.rng_util.proofs.Parts.{padded_more, padded_draws}
-use Rattle.common.specs.Bounds.{zero_f}
-use Rattle.candidates.specs.Random.{random_entries}
+-- `random_entries` meets its contract: one draw for each entry.
+use Rattle.std.proofs.Common.{◌≡◌, ◌^◌, get_or, rules, arith}
+use Rattle.rng_util.specs.Gen.{made}
+use Rattle.rng_util.proofs.Parts.{drew}
+use Rattle.candidates.specs.Random.{nan_bounds, entry_at, random_entries}
 use Rattle.candidates.proofs.Draws.{entry-draws}
 use Rattle.candidates.proofs.random_entries.Goals as goal
 
-pub loop-j-init : goal.loop-j-init
-unfolding many
-loop-j-init c = refl
-
-pub sample_random_internal-requires : goal.sample_random_internal-requires
-sample_random_internal-requires c = omega (arith, padded_draws _ 16 zero_f _ _ _ _ c.loop-j.invariant 1 (λ j f. entry-draws _ f))
-
-pub loop-j-preserved : goal.loop-j-preserved
-loop-j-preserved c = padded_more _ 16 zero_f _ _ _ _ c.loop-j.invariant _ _ (omega arith) c.sample_random_internal.ensures
+pub many-requires : goal.many-requires
+many-requires c =
+    let f = entry_at c.args.space.now in (
+      omega arith,
+      (
+        c.requires.0,
+        record {
+          cost = 1;
+          most = 2 ^ 63;
+          room = omega arith;
+          takes = λ i p h l. search rules;
+          draws = λ i p q v h d. let is : made v q.now ≡ f i p.now = search rules in omega (arith, drew is, entry-draws (get_or c.args.space.now.bounds i nan_bounds) p.now);
+        },
+      ),
+    )
 
 pub returns : goal.returns
 unfolding random_entries
-returns c = search rules
+returns c = c.many.ensures (entry_at c.args.space.now) (λ i p q v h d. search rules)

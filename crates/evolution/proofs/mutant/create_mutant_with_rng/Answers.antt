@@ -8,7 +8,7 @@ use Rattle.evolution.proofs.mutant.create_mutant_with_rng.Goals as goal
 pub create_mutant-requires : goal.create_mutant-requires
 create_mutant-requires c =
     let t = in-range _ _ _ _ _ _ (search rules) (search rules) c.select_random_indices-t.ensures in
-    (search rules, search rules, search rules, t.0, t.1, t.2)
+    record { slots = (search rules, search rules, search rules); drawn = t }
 
 pub returns : goal.returns
 returns c = mutated-is c.args.setup.now (entries c.args.parents.now) _ c.args.best _ c.args.n _ _ _ _ _ c.index_count-count.ensures c.select_random_indices-t.ensures c.create_mutant.ensures
