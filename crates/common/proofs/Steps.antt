@@ -106,3 +106,5 @@ module _ (from low high : ℤ) (f : SFits w64 from) (l : SFits w64 low) (h : SFi
   -- what the code clamps
   pub stepped : (z step : ℤ) → SFits w64 step → clamp_z (from +ℤ z *ℤ step) low high ≡ clamp_z (to_z w128 (of_z w128 (from +ℤ to_z w128 (of_z w128 (cut z *ℤ step))))) low high
   stepped z step s = cut-same z step ∙ ap (λ (y : ℤ). clamp_z y low high) (sym (sum-kept z from step f s))
+
+pub ruleset cuts = (to_z-of_z, unstepped)

@@ -7,7 +7,7 @@ ghost use Rattle.common.specs.Random.{random_int};
 
 use distribution::{Distribution, IntDistribution};
 
-// The whole number nearest to q, within ±(2^64 - 1).
+// The whole number nearest to q, within ±(2^64 - 1): by rounding's table, and not by std's `round`, which has powers of two of its own.
 #[tactic(auto, using(crate::proofs::Steps::wholes))]
 fn whole(q: f64) -> i128
     ensures { result ≡ clamp_z (whole_z q) (neg_ℤ (pos (2 ^ 64 - 1))) (pos (2 ^ 64 - 1)) }
@@ -16,7 +16,7 @@ fn whole(q: f64) -> i128
     if q > 0.0 { size } else { -size }
 }
 
-// low below low, high above high, else the number itself.
+// low below low, high above high, else the number itself. It is not std's `clamp`, which asks that low is at most high.
 #[tactic(auto, unfolding(crate::specs::FromInternal::clamp_z))]
 fn clamp(x: i128, low: i64, high: i64) -> i64
     ensures { result ≡ clamp_z x low high }
@@ -39,7 +39,7 @@ fn stepped(from: i64, q: f64, step: i64, low: i64, high: i64) -> i64
     clamp(i128::from(from) + whole(q) * i128::from(step), low, high)
 }
 
-#[tactic(auto, unfolding(crate::specs::FromInternal::from_int, crate::specs::FromInternal::on_step_z))]
+#[tactic(auto, using(crate::proofs::Steps::cuts), unfolding(crate::specs::FromInternal::from_int, crate::specs::FromInternal::on_step_z))]
 pub fn from_int(value: f64, d: IntDistribution) -> i64
     ensures { result ≡ from_int value d }
 {

@@ -1,19 +1,13 @@
--- Truth values: the code's tests and branches against the definition's (`a || b` is a where a holds and b where it does not, a row
--- refuses or hands on to the next), tests as facts, and the code's limits as the definition's.
+-- Truth values: tests as facts, rows (one refuses or hands on to the next), std's test of a double, and the code's limit as the definition's.
 use Rattle.std.specs.Prelude.{Result, Err, ⊤}
 use mathlib.Core.Path.{◌≡◌, refl, sym, ap, ◌∙◌, subst}
 use mathlib.Core.Bool.{Bool, true, false, ◌||◌, true≢false}
 use lib.Dec.{T}
-use lib.Ieee.{binary64, round, size, span, climb, units, odd, of_bits, of_fields}
+use Rattle.std.specs.Float.{float_is_finite}
+use lib.Ieee.{Float, nan, inf, fin, binary64, round, size, span, climb, units, odd, of_bits, of_fields}
 use lib.Count.{count_trailing_zeros}
 use Rattle.distribution.specs.declared.Refusal.{Refusal}
-use Rattle.distribution.specs.Validate.{float_limit, quotient_limit, refused_if}
-
-pub or-first : {a a' : Bool} (b : Bool) → a ≡ true → a ≡ a' → a ≡ a' || b
-or-first b t e = t ∙ ap (λ (x : Bool). x || b) (sym t ∙ e)
-
-pub or-rest : {a a' : Bool} (b : Bool) → a ≡ false → a ≡ a' → b ≡ a' || b
-or-rest b t e = ap (λ (x : Bool). x || b) (sym t ∙ e)
+use Rattle.distribution.specs.Validate.{is_finite, float_limit, refused_if}
 
 -- ---- tests as facts
 
@@ -40,13 +34,15 @@ row-applies r v t e = ap (λ (x : Bool). refused_if x r v) (sym t ∙ e)
 pub row-passes : {a a' : Bool} {v w : (Result ⊤ Refusal)} (r : Refusal) → a ≡ false → a ≡ a' → w ≡ v → w ≡ refused_if a' r v
 row-passes {v = v} r t e h = h ∙ ap (λ (x : Bool). refused_if x r v) (sym t ∙ e)
 
--- ---- limits
+-- ---- doubles
 
--- 1e300 and 4294967295.0, as the machine holds them
-pub float-limit : of_bits binary64 9094988921128908188 ≡ float_limit
+pub finite_is : (x : Float) → float_is_finite x ≡ is_finite x
+unfolding float_is_finite
+finite_is nan = refl
+finite_is (inf s) = refl
+finite_is (fin s m e) = refl
+
+-- 1e300, as the machine holds it
+pub limit_held : of_bits binary64 9094988921128908188 ≡ float_limit
 unfolding of_bits of_fields float_limit round size span climb units odd count_trailing_zeros
-float-limit = refl
-
-pub quotient-limit : of_bits binary64 4751297606873776128 ≡ quotient_limit
-unfolding of_bits of_fields quotient_limit round size span climb units odd count_trailing_zeros
-quotient-limit = refl
+limit_held = refl

@@ -23,6 +23,10 @@ is_continuous d = continuous d.distribution
 abbrev pub choices_of : DimensionInfo → ℕ
 choices_of d = choices d.distribution
 
+-- no dimension: it has no choices
+abbrev pub blank_dim : DimensionInfo
+blank_dim = record { distribution = Categorical (record { n_choices = 0 }) }
+
 -- what a read past the end of an array of dimensions gives
 abbrev pub no_dim : DimensionInfo
 no_dim = record { distribution = FloatD (record { low = nan; high = nan; log_scale = false; step = None }) }

@@ -2,11 +2,12 @@
 #![tactic(auto)]
 
 ghost use Rattle.std.specs.Prelude.{◌≡◌};
-ghost use Rattle.distribution.specs.Dims.{continuous, choices};
+ghost use Rattle.distribution.specs.Dims.{continuous, choices, blank_dim};
 ghost use Rattle.distribution.specs.Refusals.{refusal_number};
 
 pub mod validate;
 
+// This struct and the next are two, as in the Rust: what is proved of doubles and of whole numbers has nothing in common.
 #[derive(Clone, Copy)]
 pub struct FloatDistribution {
     pub low: f64,
@@ -49,6 +50,17 @@ pub struct DimensionInfo {
     pub distribution: Distribution,
 }
 
+impl DimensionInfo {
+    // No dimension: it has no choices.
+    pub fn blank() -> Self
+        ensures { result ≡ blank_dim }
+    {
+        DimensionInfo {
+            distribution: Distribution::Categorical(CategoricalDistribution { n_choices: 0 }),
+        }
+    }
+}
+
 // The place among all dimensions.
 #[derive(Clone, Copy)]
 pub struct DimIdx(pub usize);
@@ -75,7 +87,7 @@ pub enum Refusal {
 }
 
 impl Refusal {
-    // The number that callers know a refusal by.
+    // The number that callers know a refusal by: document 01's table, name by name.
     pub fn number(self) -> u64
         ensures { result ≡ refusal_number self }
     {

@@ -16,6 +16,7 @@ const QUOTIENT_LIMIT: f64 = 4294967295.0;
 const CHOICES_LIMIT: u64 = 65535;
 
 // Neither NaN nor an infinity.
+#[tactic(auto, using(crate::proofs::Flags::finite_is))]
 pub fn is_finite(x: f64) -> bool
     ensures { result ≡ is_finite x }
 {
@@ -23,6 +24,7 @@ pub fn is_finite(x: f64) -> bool
 }
 
 // Refusal 4 of one Float bound: not finite, or over 1e300 in size.
+#[tactic(auto, using(crate::proofs::Flags::limit_held), unfolding(crate::specs::Validate::float_bound_fails))]
 fn float_bound_fails(x: f64) -> bool
     ensures { result ≡ float_bound_fails x }
 {

@@ -1,8 +1,10 @@
--- The sign of a double rounded to an integer, from its comparison with zero. A zero of either sign, and a NaN, give 0.
+-- The sign of a double rounded to an integer, from its comparison with zero: a zero of either sign, and a NaN, give 0. And the library's
+-- cast to an unsigned number, which is the floor.
 use Rattle.std.proofs.Common.{◌≡◌, ℕ, ◌+◌, ◌*◌, ◌/◌, ◌<◌, ◌≤◌, true, false, T, pos, neg_ℤ, sym, refl, ap, ◌∙◌, subst, arith, ltb-false}
 use native.Mathlib.Nat.{div-eq_of_lt}
-use lib.Ieee.{Float, nan, inf, fin, binary64, lt, of_bits, up, down}
+use lib.Ieee.{Float, nan, inf, fin, binary64, lt, of_bits, up, down, to_unsigned}
 use lib.Ieee.Fits.{down_pos}
+use Rattle.rounding.specs.Floor.{floor_of}
 use Rattle.rounding.specs.Round.{whole_size, negative, whole_z}
 
 pub above_zero : (x : Float) → lt (of_bits binary64 0) x ≡ true → whole_z x ≡ pos (whole_size x)
@@ -27,3 +29,9 @@ not-above (fin false m x) e =
     let g = none (m * up x) (down x) (down_pos x) z in
     ap pos g ∙ sym (ap (λ (n : ℕ). neg_ℤ (pos n)) g)
 not-above (fin true m x) e = refl
+
+pub cast_is : (x : Float) → to_unsigned 64 x ≡ floor_of x
+unfolding to_unsigned floor_of
+cast_is nan = refl
+cast_is (inf s) = refl
+cast_is (fin s m e) = refl

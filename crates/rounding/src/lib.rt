@@ -32,6 +32,7 @@ pub fn round(x: f64) -> f64
 }
 
 // `floor`, and Rust's cast of it to an unsigned number.
+#[tactic(auto, using(crate::proofs::Wholes::cast_is))]
 pub fn floor(x: f64) -> u64
     ensures { result ≡ floor_of x }
 {
