@@ -26,10 +26,6 @@ head-number v vs h = h v (Memᴰ.head refl)
 rest-numbers : (v : Float) (vs : List Float) → Numbers (v ∷ vs) → Numbers vs
 rest-numbers v vs h a m = h a (Memᴰ.tail m)
 
-false_of : (t : Bool) → (T t → ⊥) → t ≡ false
-false_of true h = absurd (h tt)
-false_of false h = refl
-
 -- strictly less: not at most
 lt_not_le : (v w : Float) → T (lt w v) → T (le v w) → ⊥
 lt_not_le v w l h = lt_irrefl v (le_lt_trans v w v h l)

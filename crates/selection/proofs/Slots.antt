@@ -2,7 +2,7 @@
 use Rattle.std.proofs.Common.{◌≡◌, ℕ, zero, suc, ◌+◌, ◌<◌, min, List, [], ◌∷◌, length, get_or, set, take, refl, sym, ap, ◌∙◌, arith}
 use Rattle.std.proofs.lemmas.List.{take_more}
 use lib.Ieee.{Float, nan}
-use lib.Seq.{length-take-le}
+use lib.Seq.{length-take-le, take_all}
 use Rattle.rng_util.proofs.Parts.{pad-put}
 use Rattle.candidates.specs.declared.Candidate.{Candidate}
 use Rattle.evolution.specs.Mutant.{no_member}
@@ -58,3 +58,7 @@ stored_more cs rs i population h k p = slots-more (stored cs rs) i _ population 
 pub selected_more : (ps : List Member) (cs : List Candidate) (rs : List Float) (i : ℕ) (m : Member) (population : List Member) → i < min (min (length ps) (length cs)) (length rs) → i < 160
     → m ≡ survivor_of (get_or ps i no_member) (get_or cs i no_candidate) (get_or rs i nan) → population ≡ members_rec (take i (selected ps cs rs)) → set population i m ≡ members_rec (take (i + 1) (selected ps cs rs))
 selected_more ps cs rs i m population h k e p = slots-more (selected ps cs rs) i m population (omega (arith, selected-length ps cs rs)) k (e ∙ sym (selected-read ps cs rs i (omega arith) (omega arith) (omega arith))) p
+
+pub ruleset stores = (stored_more, stored-length, take_all)
+
+pub ruleset selects = (selected_more, selected-length, take_all)

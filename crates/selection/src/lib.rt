@@ -2,7 +2,7 @@
 // `perform_selection`): which row stays, what each slot holds, and which slot is best.
 #![tactic(auto)]
 
-ghost use Rattle.std.specs.Prelude.{◌≡◌, ◌≤◌, length, take};
+ghost use Rattle.std.specs.Prelude.{◌≡◌, ◌≤◌, length};
 ghost use Rattle.selection.specs.Select.{judged, survivor_of, selected, stored};
 ghost use Rattle.selection.specs.Best.{values, best_slot, least_value};
 ghost use Rattle.selection.specs.Size.{size_of};
@@ -22,50 +22,37 @@ pub fn population_size(user: Option<u64>, n_continuous: usize) -> usize
     }
 }
 
-// Of two lent rows of n entries the one that stays: the trial's where its result is at most the parent's.
+// Of two lent rows the one that stays: the trial's where its result is at most the parent's.
 #[tactic(auto, unfolding(crate::specs::Select::judged))]
 pub fn judge<'a>(
     parent: &'a [f64],
     trial: &'a [f64],
-    n: usize,
     parent_value: f64,
     trial_value: f64,
 ) -> &'a [f64]
-    requires { (n ≤ length parent.now) × (n ≤ length trial.now) }
-    ensures { result.now ≡ take n (judged parent.now trial.now parent_value trial_value) }
+    ensures { result.now ≡ judged parent.now trial.now parent_value trial_value }
 {
     if trial_value <= parent_value {
-        &trial[..n]
+        trial
     } else {
-        &parent[..n]
+        parent
     }
 }
 
 // What a slot holds after its trial's result: a result at most the parent's replaces vector, choices and value.
+// Document 01 asks for a leaf that hands back the row, so the vector goes by `judge`.
 #[tactic(auto, unfolding(crate::specs::Select::judged, crate::specs::Select::survivor_of))]
 fn survivor(parent: &Member, trial: &Candidate, res: f64) -> Member
     ensures { result ≡ survivor_of parent.now trial.now res }
 {
-    let row = judge(&parent.candidate.x, &trial.x, 16, parent.value, res);
-    let mut x = [0.0; 16];
-    x.copy_from_slice(row);
+    let row = judge(&parent.candidate.x, &trial.x, parent.value, res);
+    let mut stays = *parent;
+    stays.candidate.x.copy_from_slice(row);
     if res <= parent.value {
-        Member {
-            candidate: Candidate {
-                x,
-                choices: trial.choices,
-            },
-            value: res,
-        }
-    } else {
-        Member {
-            candidate: Candidate {
-                x,
-                choices: parent.candidate.choices,
-            },
-            value: parent.value,
-        }
+        stays.candidate.choices = trial.choices;
+        stays.value = res;
     }
+    stays
 }
 
 // A slot that is unused.
@@ -79,6 +66,7 @@ pub fn blank_member() -> Member
 }
 
 // The first closing stores candidates and results.
+#[tactic(auto, using(crate::proofs::Slots::stores))]
 pub fn initialize_population(candidates: &[Candidate], results: &[f64]) -> [Member; 160]
     requires { length candidates.now ≤ 160 }
     ensures { result ≡ members_rec (stored candidates.now results.now) }
@@ -94,6 +82,7 @@ pub fn initialize_population(candidates: &[Candidate], results: &[f64]) -> [Memb
 }
 
 // A later closing: each slot's result against its parent's.
+#[tactic(auto, using(crate::proofs::Slots::selects))]
 pub fn perform_selection(
     parents: &[Member],
     candidates: &[Candidate],
