@@ -9,24 +9,24 @@ use Rattle.history.specs.Scan.{absorbed, may_matter, gathered, trials_of}
 use Rattle.history.specs.declared.CompletedTrial.{CompletedTrial}
 use Rattle.history.specs.declared.Gathered.{Gathered}
 
-pub scan-none : (lo hi : ℕ) (g : Gathered) → gathered lo hi [] g ≡ g
+pub scan-none : (lo hi : ℕ) (ns : List ℕ) (g : Gathered) → gathered lo hi ns [] g ≡ g
 unfolding gathered
-scan-none lo hi g = refl
+scan-none lo hi ns g = refl
 
 -- one entry more
-pub scan-more : (lo hi : ℕ) (es : List CompletedTrial) (e : CompletedTrial) (g : Gathered)
-    → gathered lo hi (es ++ (e ∷ [])) g ≡ cond (may_matter lo hi e) (absorbed (gathered lo hi es g) e) (gathered lo hi es g)
+pub scan-more : (lo hi : ℕ) (ns : List ℕ) (es : List CompletedTrial) (e : CompletedTrial) (g : Gathered)
+    → gathered lo hi ns (es ++ (e ∷ [])) g ≡ cond (may_matter lo hi e) (absorbed ns (gathered lo hi ns es g) e) (gathered lo hi ns es g)
 unfolding gathered
-scan-more lo hi [] e g = refl
-scan-more lo hi (x ∷ es) e g = scan-more lo hi es e (cond (may_matter lo hi x) (absorbed g x) g)
+scan-more lo hi ns [] e g = refl
+scan-more lo hi ns (x ∷ es) e g = scan-more lo hi ns es e (cond (may_matter lo hi x) (absorbed ns g x) g)
 
 pub ruleset scans = (scan-none, scan-more)
 
 -- what an iterator gives is known, and so is what its scan gathers
-pub scanned : {S : Type 0} {steps : S → Option CompletedTrial → S → Type 0} {s : S} {all : List CompletedTrial} (lo hi : ℕ) (g r : Gathered)
-    → (es : List CompletedTrial) × Drains steps s es × (r ≡ gathered lo hi es g) → YieldsList steps (λ x. x) s all → r ≡ gathered lo hi all g
-scanned lo hi g r (es, (u, (t, ran, ended)), is) gives =
-    is ∙ ap (λ (xs : List CompletedTrial). gathered lo hi xs g) (sym (map-id es) ∙ items_from_drains es (t, ran, λ _. (u, ended)) gives)
+pub scanned : {S : Type 0} {steps : S → Option CompletedTrial → S → Type 0} {s : S} {all : List CompletedTrial} (lo hi : ℕ) (ns : List ℕ) (g r : Gathered)
+    → (es : List CompletedTrial) × Drains steps s es × (r ≡ gathered lo hi ns es g) → YieldsList steps (λ x. x) s all → r ≡ gathered lo hi ns all g
+scanned lo hi ns g r (es, (u, (t, ran, ended)), is) gives =
+    is ∙ ap (λ (xs : List CompletedTrial). gathered lo hi ns xs g) (sym (map-id es) ∙ items_from_drains es (t, ran, λ _. (u, ended)) gives)
 
 -- the pair of a number and a value, as an entry
 abbrev pub entry_of : ℕ × Float → CompletedTrial

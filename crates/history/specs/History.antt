@@ -1,5 +1,5 @@
 -- What a whole history says: whether refusal 8 applies, and the value of a trial.
-use Rattle.std.specs.Prelude.{ℕ, Bool, true, false, ◌||◌, cond, List, [], ◌∷◌, eqb, Float, Option, Some, None}
+use Rattle.std.specs.Prelude.{ℕ, Bool, false, ◌||◌, cond, List, [], ◌∷◌, eqb, Float, Option, Some, None}
 use Rattle.history.specs.Entry.{is_bad, counted_value}
 use Rattle.history.specs.declared.CompletedTrial.{CompletedTrial}
 
@@ -18,15 +18,10 @@ unfoldable pub latest : {A : Type 0} → (CompletedTrial → A) → ℕ → List
 latest give m [] a = a
 latest give m (e ∷ es) a = latest give m es (cond (eqb e.number m) (give e) a)
 
--- the counted value of the last entry with the number m; v where no entry has it
-abbrev pub last_of : ℕ → List CompletedTrial → Float → Float
-last_of m h v = latest counted_value m h v
+-- the counted value of the last entry with the number m; o, what was found before, where no entry has it
+abbrev pub last_of : ℕ → List CompletedTrial → Option Float → Option Float
+last_of m h o = latest (λ (e : CompletedTrial). Some (counted_value e)) m h o
 
--- the same, with nothing where no entry has it
+-- the same, with nothing found before
 abbrev pub last_value : ℕ → List CompletedTrial → Option Float
-last_value m h = latest (λ (e : CompletedTrial). Some (counted_value e)) m h None
-
--- a value that was found, or nothing
-abbrev pub value_if : Bool → Float → Option Float
-value_if true v = Some v
-value_if false v = None
+last_value m h = last_of m h None

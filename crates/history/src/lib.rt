@@ -5,7 +5,7 @@
 ghost use Rattle.std.specs.Prelude.{List, ◌≡◌};
 ghost use Rattle.std.specs.Iterator.{Drains, IsFinite};
 ghost use Rattle.history.specs.Entry.{is_bad, counted_value};
-ghost use Rattle.history.specs.Scan.{absorbed, may_matter, gathered, trials_of};
+ghost use Rattle.history.specs.Scan.{nothing, absorbed, may_matter, gathered, trials_of};
 ghost use Rattle.history.specs.declared.CompletedTrial.{CompletedTrial};
 
 #[repr(C)]
@@ -15,14 +15,12 @@ pub struct CompletedTrial {
     pub value: f64,
 }
 
-// What is wanted and what is found so far: the first n of the numbers are wanted; `nan` says that refusal 8 applies.
+// What the entries so far say: whether refusal 8 applies, and the value of each wanted number that one of them has. `nan` says
+// nothing of the values beside it: both go on to the last entry.
 #[derive(Clone, Copy)]
 pub struct Gathered {
     pub nan: bool,
-    pub n: usize,
-    pub numbers: [u64; 160],
-    pub found: [bool; 160],
-    pub values: [f64; 160],
+    pub values: [Option<f64>; 160],
 }
 
 // Refusal 8: the value is NaN.
@@ -42,20 +40,29 @@ pub fn counted_value(entry: CompletedTrial) -> f64
 }
 
 impl Gathered {
+    // Before the first entry.
+    pub fn new() -> Gathered
+        ensures { result ≡ nothing }
+    {
+        Gathered {
+            nan: false,
+            values: [None; 160],
+        }
+    }
+
     // One entry more: its value takes the place of what an earlier entry gave. Out of line, so that the scan's loop over entries that
     // do not matter stays small: a fifth of the time, of entries in a slice.
     #[inline(never)]
     #[tactic(auto, using(crate::proofs::Absorbing::absorbing))]
-    pub fn absorb(&mut self, entry: CompletedTrial)
-        ensures { self.new ≡ absorbed self.old entry }
+    pub fn absorb(&mut self, wanted: &[u64], entry: CompletedTrial)
+        ensures { self.new ≡ absorbed wanted.now self.old entry }
     {
         self.nan |= is_bad(entry);
         let value = counted_value(entry);
-        let n = self.n.min(160);
+        let n = wanted.len().min(160);
         for j in 0..n {
-            if self.numbers[j] == entry.number {
-                self.found[j] = true;
-                self.values[j] = value;
+            if wanted[j] == entry.number {
+                self.values[j] = Some(value);
             }
         }
     }
@@ -69,41 +76,56 @@ pub fn may_matter(lo: u64, hi: u64, entry: CompletedTrial) -> bool
     is_bad(entry) || (lo..=hi).contains(&entry.number)
 }
 
-// The scan: every entry that may matter, in turn.
+// The scan: every entry that may matter, in turn. The range, the wanted numbers and what was gathered before stay three parameters:
+// the last goes on from entry to entry, and the first is looked at far more often than the second.
 #[tactic(auto, using(crate::proofs::Scans::scans))]
 fn scan<I: Iterator<Item = CompletedTrial> + Drop>(
     entries: I,
     lo: u64,
     hi: u64,
+    wanted: &[u64],
     from: Gathered,
 ) -> Gathered
     requires can { I.can_next entries }
     requires ends { IsFinite (I.remaining entries) }
-    ensures { (es : List CompletedTrial) × Drains I.next_gives entries es × (result ≡ gathered lo hi es from) }
+    ensures { (es : List CompletedTrial) × Drains I.next_gives entries es × (result ≡ gathered lo hi wanted.now es from) }
 {
     let mut g = from;
     for entry in entries {
         if may_matter(lo, hi, entry) {
-            g.absorb(entry);
+            g.absorb(wanted, entry);
         }
     }
     g
 }
 
 // The scan over plain slices, a number and a value for each entry: where one is longer its rest is no entry.
-pub fn gather_slices(numbers: &[u64], values: &[f64], lo: u64, hi: u64, from: Gathered) -> Gathered
-    ensures { result ≡ gathered lo hi (trials_of numbers.now values.now) from }
+pub fn gather_slices(
+    numbers: &[u64],
+    values: &[f64],
+    lo: u64,
+    hi: u64,
+    wanted: &[u64],
+    from: Gathered,
+) -> Gathered
+    ensures { result ≡ gathered lo hi wanted.now (trials_of numbers.now values.now) from }
 {
     let entries = numbers.iter().zip(values).map(|(number, value)| CompletedTrial {
         number: *number,
         value: *value,
     });
-    scan(entries, lo, hi, from)
+    scan(entries, lo, hi, wanted, from)
 }
 
 // The same scan over a slice of entries.
-pub fn gather(history: &[CompletedTrial], lo: u64, hi: u64, from: Gathered) -> Gathered
-    ensures { result ≡ gathered lo hi history.now from }
+pub fn gather(
+    history: &[CompletedTrial],
+    lo: u64,
+    hi: u64,
+    wanted: &[u64],
+    from: Gathered,
+) -> Gathered
+    ensures { result ≡ gathered lo hi wanted.now history.now from }
 {
-    scan(history.iter().copied(), lo, hi, from)
+    scan(history.iter().copied(), lo, hi, wanted, from)
 }

@@ -5,4 +5,4 @@ use Rattle.history.proofs.Scans.{scanned}
 use Rattle.history.proofs.gather.Goals as goal
 
 pub returns : goal.returns
-returns c = scanned _ _ _ _ c.scan.ensures (YieldsList-from_copied (YieldsList-from_slice c.args.history.now cc))
+returns c = scanned _ _ _ _ _ c.scan.ensures (YieldsList-from_copied (YieldsList-from_slice c.args.history.now cc))

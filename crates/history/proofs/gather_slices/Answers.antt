@@ -10,5 +10,5 @@ pub returns : goal.returns
 returns c =
     let a = c.args in
     let pairs = YieldsList-from_zip (YieldsList-from_slice a.numbers.now cc) (YieldsList-from_slice a.values.now cc) in
-    scanned _ _ _ _ c.scan.ensures (YieldsList-from_map _ entry_of pairs c.map-entries.ensures.closure (λ x r q k. search rules))
-    ∙ ap (λ (es : List CompletedTrial). gathered a.lo a.hi es a.from) (trials-zip a.numbers.now a.values.now)
+    scanned _ _ _ _ _ c.scan.ensures (YieldsList-from_map _ entry_of pairs c.map-entries.ensures.closure (λ x r q k. search rules))
+    ∙ ap (λ (es : List CompletedTrial). gathered a.lo a.hi a.wanted.now es a.from) (trials-zip a.numbers.now a.values.now)

@@ -4,4 +4,4 @@ use Rattle.history.proofs.Absorbing.{filled}
 use Rattle.history.proofs.Gathered.absorb.Given as goal
 
 abbrev pub invariant-loop-j : goal.invariant-loop-j
-invariant-loop-j l = l.self ≡ filled l.initial.self l.entry.number l.value l.j
+invariant-loop-j l = l.self ≡ filled l.wanted l.initial.self l.entry.number l.value l.j
