@@ -37,3 +37,5 @@ module _ (s : State) (e : sound_state s ≡ true) (i k : ℕ) where
 pub not-sound : (s : State) (i k : ℕ) → sound_state s ≡ false → Err StateNotSound ≡ held_of s i k
 unfolding held_of
 not-sound s i k e = rw e
+
+pub ruleset ways = (not-sound, no-slot, no-dimension, held)

@@ -1,10 +1,9 @@
 -- The look call by its tests: the values copied out are those of the view's slots.
-use Rattle.std.proofs.Common.{◌≡◌, ◌∙◌, ◌+◌, ◌<◌, ◌≤◌, arith, refl, sym, ap, Bool, true, false, cond, ℕ, List, [], ◌∷◌, map, length, get_or, set, take, eqb, Float, Ok, Err, Some, None}
-use Rattle.std.proofs.lemmas.List.{take_more, map-append, length-take-le}
+use Rattle.std.proofs.Common.{◌≡◌, ◌∙◌, ◌+◌, ◌<◌, ◌≤◌, refl, sym, ap, Bool, true, false, cond, ℕ, List, [], ◌∷◌, map, length, get_or, set, take, eqb, Float, Ok, Err, Some, None}
 use borrow.Author.Tests.{eq-eqb, ne_eqb}
 use lib.ListN.{length-map}
 use Rattle.rng_util.specs.Many.{pad_to}
-use Rattle.rng_util.proofs.Parts.{pad-put}
+use Rattle.candidates.proofs.Lists.{pad-map_more}
 use Rattle.common.specs.Bounds.{zero_f}
 use Rattle.distribution.specs.declared.Refusal.TheVariants.{StateNotSound}
 use Rattle.evolution.specs.declared.Member.{Member}
@@ -23,10 +22,9 @@ same-values (m ∷ ms) = ap (λ (l : List Float). m.value ∷ l) (same-values ms
 -- one value more
 pub value-more : (ms : List Member) (i : ℕ) (z : Member) (vs : List Float) → i < length ms → length ms ≤ 160 → vs ≡ pad_to 160 zero_f (values (take i ms))
     → set vs i (get_or ms i z).value ≡ pad_to 160 zero_f (values (take (i + 1) ms))
-value-more ms i z vs h few q =
-    let so_far : i ≡ length (values (take i ms)) = sym (length-map (take i ms) (λ (p : Member). p.value) ∙ length-take-le i ms (omega arith)) in
-    (λ j. set (q j) (so_far j) (get_or ms i z).value) ∙ pad-put 160 zero_f (get_or ms i z).value (values (take i ms)) (omega arith)
-    ∙ ap (pad_to 160 zero_f) (sym (ap values (take_more ms i z h) ∙ map-append (λ (p : Member). p.value) (take i ms) (get_or ms i z ∷ [])))
+value-more ms i z vs h few q = pad-map_more (λ (p : Member). p.value) 160 zero_f ms i z vs _ h few refl q
+
+pub ruleset turns = (value-more)
 
 module _ (s : State) (e : sound_state s ≡ true) where
   looked : (b : Bool) → eqb s.closed 0 ≡ b → look_of s ≡ cond b (bare (Ok None)) (seen (view s).slots)
@@ -48,3 +46,5 @@ module _ (s : State) (e : sound_state s ≡ true) where
 pub not-sound : (s : State) → sound_state s ≡ false → bare (Err StateNotSound) ≡ look_of s
 unfolding look_of
 not-sound s e = rw e
+
+pub ruleset looks = (nothing, shown, not-sound)

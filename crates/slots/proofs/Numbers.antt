@@ -1,7 +1,7 @@
 -- The refusals of the calls that only look, in the table's numbers.
 use Rattle.std.specs.Prelude.{Option, Some, None, Result, Ok, Err, slice_get}
 use Prim.Native.Nat.{ℕ}
-use mathlib.Core.Path.{◌≡◌, refl, ap, ◌∙◌}
+use mathlib.Core.Path.{◌≡◌, refl}
 use mathlib.Core.Bool.{Bool, true, false, not, cond}
 use lib.Dec.{eqb, ltb}
 use lib.ListN.{length}
@@ -15,7 +15,6 @@ use Rattle.state.specs.View.{view}
 use Rattle.state.specs.declared.State.{State}
 use Rattle.slots.specs.Held.{held_by, held_of, held_refusal}
 use Rattle.slots.specs.Look.{bare, seen, look_of, look_refusal, unsound_refusal}
-use Rattle.slots.specs.declared.Looked.{Looked}
 use Rattle.distribution.specs.declared.Refusal.{Refusal}
 use Rattle.distribution.specs.declared.ParamValue.{ParamValue}
 
@@ -28,9 +27,6 @@ looked-by s = go (sound_state s) (eqb (view s).slots.closed 0)
     go true true = refl
     go true false = refl
     go false y = refl
-
-pub look-meets : (s : State) (r : Looked) → r ≡ look_of s → (r ≡ look_of s) × (look_refusal r.look ≡ unsound_refusal s)
-look-meets s r e = (e, ap (λ (x : Looked). look_refusal x.look) e ∙ looked-by s)
 
 -- what a slot holds: 0, and no other
 pub held-by : (s : State) (i k : ℕ) → held_refusal (held_of s i k) ≡ unsound_refusal s
@@ -46,5 +42,4 @@ held-by s i k = go (sound_state s) (slice_get (view s).slots.parents i)
     go true (Some p) = either (ltb k (length (view s).dims)) (Ok (Some (de.decode (view s).dims k p.candidate))) refl
     go false o = refl
 
-pub held-meets : (s : State) (i k : ℕ) (r : Result (Option ParamValue) Refusal) → r ≡ held_of s i k → (r ≡ held_of s i k) × (held_refusal r ≡ unsound_refusal s)
-held-meets s i k r e = (e, ap held_refusal e ∙ held-by s i k)
+pub ruleset refusals = (looked-by, held-by)

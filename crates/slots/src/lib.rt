@@ -13,7 +13,7 @@ use distribution::{DimIdx, ParamValue, Refusal};
 use evolution::Member;
 use state::State;
 
-// The first n values are those of the slots.
+// The first n values are those of the slots. Where `look` has no slot the others are 0, as C's `DeLook` is promised them.
 #[derive(Clone, Copy)]
 pub struct Looked {
     pub look: Result<Option<usize>, Refusal>,
@@ -36,7 +36,9 @@ fn bare_look(look: Result<Option<usize>, Refusal>) -> Looked
     }
 }
 
-// The slots' values, in slot order.
+// The slots' values, in slot order. Three lines here and three in state's `choice_limits`: one function for both would say
+// four clauses of its closure, as `read_rows` of opened does.
+#[tactic(auto, using(crate::proofs::Looking::turns))]
 fn slot_values(parents: &[Member]) -> [f64; 160]
     requires { length parents.now ≤ 160 }
     ensures { result ≡ pad_to 160 zero_f (values parents.now) }
@@ -49,6 +51,7 @@ fn slot_values(parents: &[Member]) -> [f64; 160]
 }
 
 // Best slot and values, or nothing before the first closing; closed and idle generations.
+#[tactic(auto, using(crate::proofs::Numbers::refusals, crate::proofs::Looking::looks))]
 pub fn look(state: &State) -> Looked
     ensures { (result ≡ look_of state.now) × (look_refusal result.look ≡ unsound_refusal state.now) }
 {
@@ -70,6 +73,7 @@ pub fn look(state: &State) -> Looked
 }
 
 // The setting that a slot holds in a dimension, as a trial with its candidate is handed it.
+#[tactic(auto, using(crate::proofs::Numbers::refusals, crate::proofs::Holding::ways))]
 pub fn slot_setting(
     state: &State,
     slot: usize,

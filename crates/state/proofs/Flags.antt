@@ -1,16 +1,11 @@
--- Truth values: a place by whether it is in use, tests that all pass, and two tests that pass together.
+-- Truth values: tests that all pass, and two tests that pass together.
 use Rattle.std.specs.Prelude.{Some, slice_get}
 use Prim.Native.Nat.{ℕ, zero, suc}
-use mathlib.Core.Path.{◌≡◌, refl, sym, ap₂, ◌∙◌}
-use mathlib.Core.Bool.{Bool, true, false, not, ◌&&◌, cond, true≢false}
+use mathlib.Core.Path.{◌≡◌, refl, sym, ◌∙◌}
+use mathlib.Core.Bool.{Bool, true, false, not, ◌&&◌, true≢false}
 use mathlib.Core.List.{List, [], ◌∷◌}
 use Rattle.ledger.specs.Words.{every}
 use Rattle.ledger.proofs.Lists.{none≢some, some_inj}
-
--- two tests, each by whether the place is in use
-pub both-places : (used a b c d : Bool) {x y : Bool} → x ≡ cond used a b → y ≡ cond used c d → (x && y) ≡ cond used (a && c) (b && d)
-both-places true a b c d p q = ap₂ (λ (x y : Bool). x && y) p q
-both-places false a b c d p q = ap₂ (λ (x y : Bool). x && y) p q
 
 -- `if !t`, by which arm was taken
 pub failed : (t : Bool) → not t ≡ true → t ≡ false

@@ -12,11 +12,11 @@ use Rattle.common.specs.Bounds.{zero_f}
 use Rattle.ledger.specs.Soundness.{is_number}
 use Rattle.kernel.specs.Fits.{is_zero}
 
-pub number-is : (v : Float) → not (is_nan v) ≡ is_number v
+pub number_is : (v : Float) → not (is_nan v) ≡ is_number v
 unfolding is_nan
-number-is nan = refl
-number-is (inf s) = refl
-number-is (fin s m e) = refl
+number_is nan = refl
+number_is (inf s) = refl
+number_is (fin s m e) = refl
 
 -- ---- plus zero, and no other double
 
@@ -56,3 +56,5 @@ zero_bits v f = go (eqb (to_bits binary64 v) 0) (is_zero v) refl refl
         let e : v ≡ zero_f = sym (of_bits-to_bits binary64 v (subst T (sym f) tt)) ∙ ap (of_bits binary64) (eqb-true (to_bits binary64 v) 0 x) in
         absurd (true≢false (sym zero-is-zero ∙ ap is_zero (sym e) ∙ y))
     go false true x y = absurd (true≢false (sym zero-bits-zero ∙ ap (λ (u : Float). eqb (to_bits binary64 u) 0) (sym (zero-true v y)) ∙ x))
+
+pub ruleset zeros = (zero-nan, zero_bits)

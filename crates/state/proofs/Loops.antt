@@ -47,3 +47,5 @@ all-next p (y ∷ xs) (suc i) z h = sym (and_assoc (p y) _ _) ∙ ap (λ (b : Bo
 
 pub all-more : {A : Type 0} (p : A → Bool) (xs : List A) (i : ℕ) (x : A) {f t : Bool} → i < length xs → x ≡ get_or xs i x → f ≡ all p (take i xs) → t ≡ p x → (f && t) ≡ all p (take (i + 1) xs)
 all-more p xs i x h e q r = rw add-one (ap₂ (λ (a b : Bool). a && b) q (r ∙ ap p e) ∙ all-next p xs i x h)
+
+pub ruleset sweeps = (below-turn, below_end)

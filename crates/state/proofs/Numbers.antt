@@ -58,11 +58,11 @@ below_none k (m ∷ ns) e =
         let b = true-and (ltb m j) (increasing (j ∷ js)) q in
         and-true (lt-ltb k j (omega (arith, ltb-true k m (true-and (ltb k m) _ e).0, ltb-true m j b.0))) b.1
 
-pub rising-differ : (ns : List ℕ) → increasing ns ≡ true → differing ns ≡ true
+pub rising_differ : (ns : List ℕ) → increasing ns ≡ true → differing ns ≡ true
 unfolding increasing differing
-rising-differ [] e = refl
-rising-differ (n ∷ []) e = unfold has in refl
-rising-differ (n ∷ m ∷ ns) e = and-true (ap not (below_none n (m ∷ ns) e)) (rising-differ (m ∷ ns) (true-and (ltb n m) (increasing (m ∷ ns)) e).1)
+rising_differ [] e = refl
+rising_differ (n ∷ []) e = unfold has in refl
+rising_differ (n ∷ m ∷ ns) e = and-true (ap not (below_none n (m ∷ ns) e)) (rising_differ (m ∷ ns) (true-and (ltb n m) (increasing (m ∷ ns)) e).1)
 
 -- ---- a number among the trials'
 
@@ -92,3 +92,5 @@ pub differ-none : (ts : List TrialProgress) → length ts ≡ 0 → differing (n
 unfolding differing
 differ-none [] e = refl
 differ-none (t ∷ ts) e = absurd (let q : suc (length ts) ≡ 0 = e in omega arith)
+
+pub ruleset differs = (differ-found, differ-on, differ-none)

@@ -34,3 +34,5 @@ size_few S n e h = few S.population_size n (size-passes S e) h
 pub not-err : (v : Result ⊤ Refusal) → is_err v ≡ false → is_ok v ≡ true
 not-err (Ok u) e = refl
 not-err (Err r) e = absurd (true≢false e)
+
+pub ruleset sizes = (size_few, not-err)

@@ -1,5 +1,6 @@
 -- Unused places: "unused places are as in a fresh state".
 use Rattle.std.specs.Prelude.{Bool, false, ◌&&◌, [], eqb}
+pub use Rattle.distribution.specs.Dims.{blank_dim}
 use Rattle.distribution.specs.declared.DimensionInfo.{DimensionInfo}
 use Rattle.distribution.specs.declared.Distribution.{Distribution}
 use Rattle.distribution.specs.declared.Distribution.TheVariants.{Float as FloatD, Int as IntD, Categorical}
@@ -8,10 +9,7 @@ use Rattle.evolution.specs.declared.Member.{Member}
 use Rattle.kernel.specs.Fits.{is_zero, fits}
 use Rattle.state.specs.declared.TrialProgress.{TrialProgress}
 
--- an unused dimension has no choices; an unused trial has number 0 and next place 0
-abbrev pub blank_dim : DimensionInfo
-blank_dim = record { distribution = Categorical (record { n_choices = 0 }) }
-
+-- an unused dimension has no choices (`blank_dim`); an unused trial has number 0 and next place 0
 abbrev pub blank_trial : TrialProgress
 blank_trial = record { number = 0; next_dim = 0 }
 

@@ -19,8 +19,24 @@ pub struct TrialProgress {
     pub next_dim: usize,
 }
 
+impl TrialProgress {
+    ghost use Rattle.std.specs.Prelude.{◌≡◌};
+    ghost use Rattle.state.specs.Blank.{blank_trial};
+
+    // No trial.
+    pub fn blank() -> Self
+        ensures { result ≡ blank_trial }
+    {
+        TrialProgress {
+            number: 0,
+            next_dim: 0,
+        }
+    }
+}
+
 // In use are n_dims dimensions, n_trials trials, after discovery n candidates and one for each trial past n, and n
-// parents once a generation has closed. Unused places are as in a fresh state.
+// parents once a generation has closed. Unused places are as in a fresh state. Arrays with counts: there is no heap.
+// `discovered` and `n` are no option: C and a saved file hand in any two of them, and a pair that disagrees is not sound.
 #[derive(Clone, Copy)]
 pub struct State {
     pub setup: Setup,

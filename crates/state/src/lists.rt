@@ -18,6 +18,8 @@ fn has_number(trials: &[TrialProgress], number: u64) -> bool
     trials.iter().any(|trial| trial.number == number)
 }
 
+// Each number against those after it: no iterator hands out an item together with what is left.
+#[tactic(auto, using(crate::proofs::Numbers::differs))]
 fn all_differ(trials: &[TrialProgress]) -> bool
     ensures { result ≡ differing (numbers_of trials.now) }
 {
@@ -32,6 +34,7 @@ fn all_differ(trials: &[TrialProgress]) -> bool
 }
 
 // Whether the numbers of the trials differ: in one pass where they increase, as they mostly do.
+#[tactic(auto, using(crate::proofs::Numbers::rising_differ))]
 pub fn numbers_differ(trials: &[TrialProgress]) -> bool
     ensures { result ≡ differing (numbers_of trials.now) }
 {

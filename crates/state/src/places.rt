@@ -16,7 +16,7 @@ use distribution::{DimIdx, DimensionInfo, Distribution, choices_of, is_continuou
 use evolution::Member;
 
 // What the tests of candidates read of the dimensions, made once: how many are continuous, and what each choice stays
-// below.
+// below. n counts entries, and not the choices beside it: each of a candidate's 16 has its limit.
 #[derive(Clone, Copy)]
 pub struct Limits {
     pub n: usize,
@@ -51,19 +51,22 @@ pub fn places_fit<T, R: Fn(&T) -> bool, B: Fn(&T) -> bool>(
 }
 
 // Plus zero, as an unused entry is: -0.0 equals it, and is another double.
+#[tactic(auto, using(crate::proofs::Floats::zeros))]
 fn is_zero(v: f64) -> bool
     ensures { result ≡ is_zero v }
 {
     !v.is_nan() && f64::to_bits(v) == 0
 }
 
-// n finite entries, and unused ones after them, which are finite too.
+// n finite entries, and unused ones after them.
 fn entries_fit(x: &[f64], n: usize) -> bool
     ensures { result ≡ places_fit is_finite is_zero n x.now }
 {
-    all_pass(x, |v| is_finite(*v)) & all_pass(&x[n.min(x.len())..], |v| is_zero(*v))
+    places_fit(x, n, |v| is_finite(*v), |v| is_zero(*v))
 }
 
+// Without an early way out, as `all_pass`, which goes through one list and not through two.
+#[tactic(auto, using(crate::proofs::Loops::sweeps))]
 fn choices_fit(choices: &[u16; 16], limits: &[u16; 16]) -> bool
     ensures { result ≡ choices_below choices.now limits.now }
 {
@@ -81,6 +84,7 @@ pub fn candidate_fits(c: &Candidate, limits: &Limits) -> bool
     entries_fit(&c.x, limits.n) & choices_fit(&c.choices, &limits.choices)
 }
 
+#[tactic(auto, using(crate::proofs::Fitting::blanks))]
 pub fn is_blank_candidate(c: &Candidate) -> bool
     ensures { result ≡ is_blank_candidate c.now }
 {
@@ -88,6 +92,7 @@ pub fn is_blank_candidate(c: &Candidate) -> bool
 }
 
 // A parent of the dimensions that the limits are of.
+#[tactic(auto, using(crate::proofs::Floats::number_is))]
 pub fn member_fits(m: &Member, limits: &Limits) -> bool
     ensures { (ds : List DimensionInfo) → length ds ≤ 16 → limits.now ≡ limits_of ds → result ≡ member_fits ds m.now }
 {
@@ -138,6 +143,7 @@ fn choice_limit(d: &DimensionInfo) -> u16
     choices_of(d.distribution) as u16
 }
 
+#[tactic(auto, using(crate::proofs::Fitting::limits))]
 fn choice_limits(dims: &[DimensionInfo]) -> [u16; 16]
     requires { (length dims.now ≤ 16) × FewChoices dims.now }
     ensures { result ≡ pad_to 16 1 (map choice_limit dims.now) }

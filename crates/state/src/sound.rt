@@ -1,5 +1,5 @@
 // Refusal 0: whether a state is sound.
-ghost use Rattle.std.specs.Prelude.{is_some, ◌≡◌, cond, ◌≤◌, max, eqb};
+ghost use Rattle.std.specs.Prelude.{is_some, ◌≡◌, ◌≤◌};
 ghost use Rattle.std.specs.Bool.{OnTrue};
 ghost use Rattle.state.specs.Places.{discovering_counts, running_counts, counts_sound};
 ghost use Rattle.state.specs.Sound.{sound_state, Few};
@@ -15,20 +15,6 @@ use selection::{best_slot, population_size};
 
 // The most dimensions.
 const DIM_LIMIT: usize = 16;
-
-// After discovery N candidates, and one for each trial past N.
-pub fn candidate_count(discovered: bool, n: usize, n_trials: usize) -> usize
-    ensures { result ≡ cond discovered (max n n_trials) 0 }
-{
-    if discovered { n.max(n_trials) } else { 0 }
-}
-
-// N parents once a generation has closed.
-pub fn parent_count(closed: u32, n: usize) -> usize
-    ensures { result ≡ cond (eqb closed 0) 0 n }
-{
-    if closed == 0 { 0 } else { n }
-}
 
 impl State {
     // Before discovery ends.
@@ -57,7 +43,7 @@ impl State {
     }
 
     // The set-up and the counts; `n_continuous` of the dimensions are continuous.
-    #[tactic(auto, unfolding(crate::specs::Places::counts_sound))]
+    #[tactic(auto, using(crate::proofs::Sizes::sizes), unfolding(crate::specs::Places::counts_sound))]
     fn counts_sound(&self, n_continuous: usize) -> bool
         requires { n_continuous ≤ 16 }
         ensures { result ≡ counts_sound n_continuous self.now }
@@ -77,8 +63,8 @@ impl State {
         ensures sound { result ≡ sound_state self.now }
         ensures few { OnTrue result (Few self.now) }
     {
-        // Read here and not by the method, so that the range of `closed` is known.
-        let n_parents = parent_count(self.closed, self.n);
+        // As its type says; the callee that reads it does not tell.
+        prove!(self.closed <= u32::MAX);
         if self.n_dims > DIM_LIMIT || !places_fit(&self.dims, self.n_dims, passes, is_blank_dim) {
             return false;
         }
@@ -100,7 +86,7 @@ impl State {
         );
         let parents = places_fit(
             &self.parents,
-            n_parents,
+            self.parent_count(),
             |m| member_fits(m, &limits),
             is_blank_member,
         );

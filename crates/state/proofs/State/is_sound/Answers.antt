@@ -41,14 +41,6 @@ returns-then-not-counts_sound-clause-sound c =
     let arrays : Arrays s = record { dims = search rules; candidates = search rules; parents = search rules; trials = search rules; closed = search rules } in
     refuted s arrays _ (λ p. counts-told s _ c.if-self-gt-DIM_LIMIT.false (c.limits_of-limits.ensures ∙ ap limits_of c.dims.ensures) c.counts_sound.ensures ∙ p.counts) c.if-not-counts_sound.true
 
-pub trials-requires : goal.trials-requires
-trials-requires c =
-    (few-told c.args.self.now _ c.if-self-gt-DIM_LIMIT.false (c.limits_of-limits.ensures ∙ ap limits_of c.dims.ensures) c.counts_sound.ensures c.if-not-counts_sound.false).trials
-
-pub parents-requires : goal.parents-requires
-parents-requires c =
-    (few-told c.args.self.now _ c.if-self-gt-DIM_LIMIT.false (c.limits_of-limits.ensures ∙ ap limits_of c.dims.ensures) c.counts_sound.ensures c.if-not-counts_sound.false).slots
-
 pub returns : goal.returns
 returns c =
     let s = c.args.self.now in

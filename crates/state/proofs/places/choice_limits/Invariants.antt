@@ -1,8 +1,8 @@
--- `choice_limits` meets its contract: `Fill` with the limit of each dimension.
-use Rattle.std.proofs.Common.{length}
-use Rattle.candidates.proofs.Fill.{Fill}
-use Rattle.state.proofs.Fitting.{limit_at}
+-- `choice_limits` meets its contract: the limits so far, and 1 after them.
+use Rattle.std.proofs.Common.{◌≡◌, map, take}
+use Rattle.rng_util.specs.Many.{pad_to}
+use Rattle.kernel.specs.Fits.{choice_limit}
 use Rattle.state.proofs.places.choice_limits.Given as goal
 
 abbrev pub invariant-loop-k : goal.invariant-loop-k
-invariant-loop-k l = Fill 16 1 (limit_at l.dims) (length l.dims) l.limits l.k
+invariant-loop-k l = l.limits ≡ pad_to 16 1 (map choice_limit (take l.k l.dims))
