@@ -50,3 +50,5 @@ module _ (s : State) (few : s.n_dims ≤ 16) (ds : List DimensionInfo) (is : ds 
   space-fits =
       let h : length (dims_of s) ≤ 16 = omega (arith, length-take s.n_dims s.dims) in
       (space-few (dims_of s) space h space-is, space-dims (dims_of s) space h space-is)
+
+pub ruleset spaces = (space-fits)

@@ -82,10 +82,14 @@ pub record Given : Type 0 where
   pub draws : ℕ
   pub state : State
 
--- what a call makes of the generator and the state that it is lent, or its refusal
-abbrev pub given_ok : Result ParamValue Refusal → Gen → State → Result Given Refusal
-given_ok (Ok x) g s = Ok (record { setting = x; draws = g.draws; state = s })
-given_ok (Err r) g s = Err r
+-- a setting and the draws that it took, with the state then
+abbrev pub given : ParamValue × ℕ → State → Given
+given x s = record { setting = x.0; draws = x.1; state = s }
+
+-- the same of a call that may be refused
+abbrev pub given_ok : Result (ParamValue × ℕ) Refusal → State → Result Given Refusal
+given_ok (Ok x) s = Ok (given x s)
+given_ok (Err r) s = Err r
 
 -- the trial n at a place has candidate y, its next place is k, and the generator's word is w
 abbrev pub with_trial : State → ℕ → ℕ → Candidate → ℕ → ℕ → State

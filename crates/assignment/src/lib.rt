@@ -58,7 +58,7 @@ pub fn setting_for(
 }
 
 // The trial's own candidate if its place has one; else it is an extra, and gets a random one.
-#[tactic(auto, unfolding(crate::specs::Raw::candidate_for))]
+#[tactic(auto, using(crate::proofs::Laws::spaces), unfolding(crate::specs::Raw::candidate_for))]
 fn assign_candidate(state: &State, place: usize, rng: &mut Gen) -> Result<Candidate, Refusal>
     requires { (state.now.n_dims ≤ 16) × FewChoices (dims_of state.now) × (place < 224) × (rng.old.draws < 2 ^ 60) }
     ensures { made_ok result rng.new ≡ assigned_at state.now place rng.old }
@@ -74,28 +74,28 @@ fn assign_candidate(state: &State, place: usize, rng: &mut Gen) -> Result<Candid
     Ok(extra)
 }
 
-// The call of a trial after discovery, once the generation has closed if it does. A new trial's place is unused: next_dim
-// is 0 there. A refusal leaves the state as it was.
+// The call of a trial after discovery, once the generation has closed if it does: the setting, and the draws of the whole call.
+// A new trial's place is unused: next_dim is 0 there. A refusal leaves the state as it was.
 #[tactic(auto, unfolding(crate::specs::Raw::raw_active))]
 pub fn sample_active(
     state: &mut State,
     lent: Distribution,
     number: u64,
-    rng: &mut Gen,
-) -> Result<ParamValue, Refusal>
-    requires { Ready state.old lent number rng.old }
-    ensures made { given_ok result rng.new state.new ≡ raw_active state.old lent number rng.old }
+    mut rng: Gen,
+) -> Result<(ParamValue, u64), Refusal>
+    requires { Ready state.old lent number rng }
+    ensures made { given_ok result state.new ≡ raw_active state.old lent number rng }
     ensures kept { OnErr result (state.new ≡ state.old) }
 {
     let place = places::place_of(state.trials(), number);
-    let candidate = assign_candidate(state, place, rng)?;
+    let candidate = assign_candidate(state, place, &mut rng)?;
     let at = state.trials[place].next_dim;
-    let setting = setting_for(state.dims(), lent, DimIdx(at), &candidate, rng);
+    let setting = setting_for(state.dims(), lent, DimIdx(at), &candidate, &mut rng);
     // One dimension on, and no further than past the last.
     let next_dim = at.saturating_add(1).min(state.n_dims);
     state.candidates[place] = candidate;
     state.trials[place] = TrialProgress { number, next_dim };
     state.n_trials = state.n_trials.max(place + 1);
     state.word = rng.word;
-    Ok(setting)
+    Ok((setting, rng.draws))
 }

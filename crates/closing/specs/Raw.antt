@@ -1,5 +1,5 @@
 -- A closing on the code's own state: its arrays, of which the first n places count. proofs/Refine says that it is the ledger's `close` on the plain state.
-use Rattle.std.specs.Prelude.{ℕ, ◌≤◌, Bool, ◌&&◌, cond, List, eqb, leb, Float, take, replicate, Result, Ok, Err}
+use Rattle.std.specs.Prelude.{ℕ, ◌≤◌, Bool, ◌&&◌, cond, List, eqb, leb, Float, take, replicate, Option, is_some, Result, Ok, Err}
 use Rattle.std.specs.Float.Ieee.{lt}
 use Rattle.std.specs.List.{list_all}
 use Rattle.rng_util.specs.Gen.{Made, made}
@@ -23,13 +23,9 @@ use Rattle.closing.specs.declared.Slots.{Slots}
 
 -- ---- when it closes
 
--- a flag is its own test
-abbrev pub is_true : Bool → Bool
-is_true b = b
-
--- "exactly when at least N trials are assigned and its history has the first N", after discovery; `found` says of each trial whether the history has it
-unfoldable pub closes_now : Bool → ℕ → ℕ → List Bool → Bool
-closes_now discovered n trials found = discovered && (leb n trials && list_all is_true (take n found))
+-- "exactly when at least N trials are assigned and its history has the first N", after discovery; `values` has what the history gives each trial
+unfoldable pub closes_now : Bool → ℕ → ℕ → List (Option Float) → Bool
+closes_now discovered n trials values = discovered && (leb n trials && list_all is_some (take n values))
 
 -- ---- the slots after it
 

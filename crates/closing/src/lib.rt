@@ -1,13 +1,12 @@
 // Step 6: a generation closes (sampler/de.rs, `maybe_update_generation`).
 #![tactic(auto)]
 
-ghost use Rattle.std.specs.Prelude.{◌≡◌, ◌≤◌, ◌<◌, ◌^◌, length, take, OnErr};
-ghost use Rattle.std.specs.Result.{result_and};
-ghost use Rattle.rng_util.specs.Gen.{made};
+ghost use Rattle.std.specs.Prelude.{◌≡◌, ◌≤◌, length, take, is_some, OnErr};
+ghost use Rattle.rng_util.specs.Gen.{fresh, handed_on};
 ghost use Rattle.ledger.specs.Closing.{new_idle};
 ghost use Rattle.selection.specs.Records.{members_rec};
 ghost use Rattle.std.specs.List.{list_all};
-ghost use Rattle.closing.specs.Raw.{is_true, closes_now, parents_after, raw_parents, raw_slots, Closable, raw_close};
+ghost use Rattle.closing.specs.Raw.{closes_now, parents_after, raw_parents, raw_slots, Closable, raw_close};
 
 use candidates::Candidate;
 use distribution::Refusal;
@@ -24,20 +23,20 @@ pub struct Slots {
     pub idle: u32,
 }
 
-// The history has each of these trials.
-fn all_found(found: &[bool]) -> bool
-    ensures { result ≡ list_all is_true found.now }
+// The history has a value for each of these trials.
+fn all_found(values: &[Option<f64>]) -> bool
+    ensures { result ≡ list_all is_some values.now }
 {
-    found.iter().all(|f| *f)
+    values.iter().all(|value| value.is_some())
 }
 
 // Whether a generation closes: at least n trials are assigned, and the history has the first n.
 #[tactic(auto, unfolding(crate::specs::Raw::closes_now))]
-pub fn closes_now(discovered: bool, n: usize, n_trials: usize, found: &[bool; 160]) -> bool
+pub fn closes_now(discovered: bool, n: usize, n_trials: usize, values: &[Option<f64>; 160]) -> bool
     requires { n ≤ 160 }
-    ensures { result ≡ closes_now discovered n n_trials found.now }
+    ensures { result ≡ closes_now discovered n n_trials values.now }
 {
-    discovered && n <= n_trials && all_found(&found[..n])
+    discovered && n <= n_trials && all_found(&values[..n])
 }
 
 // Idle generations: closed since the least value of all slots last became smaller, 0 up to and at the first closing. Both
@@ -53,7 +52,7 @@ fn new_idle(closed: u32, idle: u32, smaller: bool) -> u32
 }
 
 // What each slot holds, in the first places: the first closing stores candidates and results, a later one selects.
-#[tactic(auto, unfolding(crate::specs::Raw::parents_after))]
+#[tactic(auto, using(crate::proofs::Made::kept), unfolding(crate::specs::Raw::parents_after))]
 fn new_parents(
     closed: u32,
     parents: &[Member],
@@ -79,10 +78,8 @@ fn settle(state: &State, results: &[f64]) -> Slots
     ensures first { take state.now.n result.parents ≡ raw_parents state.now results.now }
 {
     let n = state.n;
-    let parents: &[Member] = &state.parents;
-    let candidates: &[Candidate] = &state.candidates;
-    let olds = &parents[..n];
-    let parents = new_parents(state.closed, olds, &candidates[..n], &results[..n]);
+    let olds = &state.parents[..n];
+    let parents = new_parents(state.closed, olds, &state.candidates[..n], &results[..n]);
     let news = &parents[..n];
     let best = selection::best_slot(news);
     let smaller = selection::least_value(news) < selection::least_value(olds);
@@ -94,13 +91,13 @@ fn settle(state: &State, results: &[f64]) -> Slots
     }
 }
 
-// The generation closes with these results, and the next one begins: new candidates, and no trial yet. A refusal leaves the
-// state as it was.
+// The generation closes with these results, and the next one begins: new candidates, and no trial yet. The generator is handed
+// on; a refusal has none, and leaves the state as it was.
 #[inline(never)]
 #[tactic(auto, unfolding(crate::specs::Raw::raw_close))]
-pub fn close(state: &mut State, results: &[f64], rng: &mut Gen) -> Result<(), Refusal>
-    requires { Closable state.old × (state.old.n ≤ length results.now) × (rng.old.draws < 2 ^ 59) }
-    ensures made { result_and result (Ok (made state.new rng.new)) ≡ raw_close state.old results.now rng.old }
+pub fn close(state: &mut State, results: &[f64]) -> Result<Gen, Refusal>
+    requires { Closable state.old × (state.old.n ≤ length results.now) }
+    ensures made { handed_on result state.new ≡ raw_close state.old results.now (fresh state.old.word) }
     ensures kept { OnErr result (state.new ≡ state.old) }
 {
     let n = state.n;
@@ -110,8 +107,15 @@ pub fn close(state: &mut State, results: &[f64], rng: &mut Gen) -> Result<(), Re
         closed,
         idle,
     } = settle(state, results);
+    let mut rng = Gen::new(state.word);
     let space = candidates::search_space(state.dims());
-    let candidates = evolution::next_candidates(&state.setup, &parents[..n], best, &space, rng);
+    let candidates = evolution::next_candidates(
+        &state.setup,
+        &parents[..n],
+        best,
+        &space,
+        &mut rng,
+    );
     if candidates::any_bad(&candidates[..n]) {
         return Err(Refusal::EntryNan);
     }
@@ -126,5 +130,5 @@ pub fn close(state: &mut State, results: &[f64], rng: &mut Gen) -> Result<(), Re
     state.best = best;
     state.closed = closed;
     state.idle = idle;
-    Ok(())
+    Ok(rng)
 }

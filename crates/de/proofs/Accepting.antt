@@ -33,7 +33,7 @@ use Rattle.assignment.specs.Raw.{given_ok, Ready, Complete, raw_active, raw_disc
 use Rattle.assignment.specs.Laid.{laid_accepted}
 use Rattle.assignment.proofs.Meet.{judged-valid}
 use Rattle.closing.specs.Raw.{Closable, raw_close}
-use Rattle.de.specs.Gathered.{sampling_on, discovery_on, refusal_on, accept_on, refusal, row_if}
+use Rattle.de.specs.Gathered.{sampling_on, discovery_on, refusal_on, accept_on, accepted_on, refusal, row_if}
 use Rattle.de.specs.Whole.{Acceptable}
 use Rattle.de.proofs.Whole as Whole
 
@@ -49,8 +49,12 @@ not-refused false r e = refl
 some-not : {A : Type 0} {o : Option A} → IsSome o → o ≡ None → ⊥
 some-not h e = cc (h, e)
 
--- s is the state that comes in, and g the generator then
-module _ (s : State) (d : Distribution) (n : ℕ) (closes : Bool) (rs : List Float) (q : Acceptable s d n closes rs) (g : Gen) (begins : g ≡ start_of s) where
+-- s is the state that comes in
+module _ (s : State) (d : Distribution) (n : ℕ) (closes : Bool) (rs : List Float) (q : Acceptable s d n closes rs) where
+  -- the generator then
+  abbrev g : Gen
+  g = start_of s
+
   abbrev S : Setup
   S = s.setup
 
@@ -59,7 +63,7 @@ module _ (s : State) (d : Distribution) (n : ℕ) (closes : Bool) (rs : List Flo
 
   -- what the definition makes of the call
   abbrev accepted : Option (Accepted de)
-  accepted = accept_on S m.size m n d (row_if closes (take s.n rs))
+  accepted = accepted_on s d n closes rs
 
   sound : Sound de S m
   sound = Tidy.view-sound s q.sound de-laws
@@ -75,7 +79,7 @@ module _ (s : State) (d : Distribution) (n : ℕ) (closes : Bool) (rs : List Flo
 
   start_is : g ≡ code_gen (Plain.start_gen de m)
   unfolding view
-  start_is = begins
+  start_is = refl
 
   refusals : (judged d ≡ None) × (refusal_on m.size m n (row_if closes (take s.n rs)) ≡ None)
   unfolding refusal
@@ -89,22 +93,19 @@ module _ (s : State) (d : Distribution) (n : ℕ) (closes : Bool) (rs : List Flo
   valid : verdict_of d ≡ Ok tt
   valid = judged-valid d good
 
-  pub few_draws : g.draws < 2 ^ 59
-  few_draws = rw begins (omega arith)
-
   -- a state and a generator from which an open generation serves the call as the definition accepts it; only where it is refused need they be as they came
   pub record Opened (t : State) (h : Gen) : Type 0 where
     pub ready : Ready t d n h
     pub serves : raw_active t d n h ≡ laid_accepted S accepted
     pub unmoved : accepted ≡ None → t ≡ s
 
-  pub served : (t : State) (h : Gen) → Opened t h → (a : Result ParamValue Refusal) (h' : Gen) (t' : State) → given_ok a h' t' ≡ raw_active t d n h → given_ok a h' t' ≡ laid_accepted S accepted
-  served t h o a h' t' e = e ∙ o.serves
+  pub served : (t : State) (h : Gen) → Opened t h → (a : Result (ParamValue × ℕ) Refusal) (t' : State) → given_ok a t' ≡ raw_active t d n h → given_ok a t' ≡ laid_accepted S accepted
+  served t h o a t' e = e ∙ o.serves
 
-  pub served_kept : (t : State) (h : Gen) → Opened t h → (a : Result ParamValue Refusal) (h' : Gen) (t' : State) → given_ok a h' t' ≡ raw_active t d n h → OnErr a (t' ≡ t) → OnErr a (t' ≡ s)
-  served_kept t h o a h' t' e k = go a accepted (served t h o a h' t' e) o.unmoved k
+  pub served_kept : (t : State) (h : Gen) → Opened t h → (a : Result (ParamValue × ℕ) Refusal) (t' : State) → given_ok a t' ≡ raw_active t d n h → OnErr a (t' ≡ t) → OnErr a (t' ≡ s)
+  served_kept t h o a t' e k = go a accepted (served t h o a t' e) o.unmoved k
     where
-      go : (a : Result ParamValue Refusal) (p : Option (Accepted de)) → given_ok a h' t' ≡ laid_accepted S p → (p ≡ None → t ≡ s) → OnErr a (t' ≡ t) → OnErr a (t' ≡ s)
+      go : (a : Result (ParamValue × ℕ) Refusal) (p : Option (Accepted de)) → given_ok a t' ≡ laid_accepted S p → (p ≡ None → t ≡ s) → OnErr a (t' ≡ t) → OnErr a (t' ≡ s)
       go (Ok x) p e u k = tt
       go (Err r) None e u k = k ∙ u refl
       go (Err r) (Some y) e u k = absurd cc
@@ -189,9 +190,9 @@ module _ (s : State) (d : Distribution) (n : ℕ) (closes : Bool) (rs : List Flo
           leb-false 16 (length m.dims)
           (rw (sym first-is ∙ yes) at (not-refused (discovers m.first n && leb 16 (length m.dims)) 9 (sym (ap (λ (z : Option ℕ). refusal_on z m n (row_if closes (take s.n rs))) unsized) ∙ refusals.1)))
 
-      pub discovery-requires : (s.n_dims < 16) × (verdict_of d ≡ Ok tt) × (g.draws < 2 ^ 61)
+      pub discovery-requires : (s.n_dims < 16) × (verdict_of d ≡ Ok tt)
       unfolding laid
-      discovery-requires = (subst (λ (x : State). x.n_dims < 16) (sym is) few_dims, valid, omega (arith, few_draws))
+      discovery-requires = (subst (λ (x : State). x.n_dims < 16) (sym is) few_dims, valid)
 
       pub discovery-returns : Ok (raw_discovery s d n g) ≡ laid_accepted S accepted
       discovery-returns =
@@ -200,8 +201,8 @@ module _ (s : State) (d : Distribution) (n : ℕ) (closes : Bool) (rs : List Flo
           ∙ ap (laid_accepted S) (sym (finds true (sym first-is ∙ yes) _))
 
     module _ (no : discovers s.first n ≡ false) where
-      pub begin-requires : Complete s × (g.draws < 2 ^ 60)
-      begin-requires = (subst Complete (sym is) (Whole.completes de-laws S m ok sound d good n unsized), omega (arith, few_draws))
+      pub begin-requires : Complete s
+      begin-requires = subst Complete (sym is) (Whole.completes de-laws S m ok sound d good n unsized)
 
       first-laid : raw_begin s g ≡ raw_begin (laid S m) (code_gen (Plain.start_gen de m))
       first-laid = λ i. raw_begin (is i) (start_is i)

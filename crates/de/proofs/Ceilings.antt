@@ -58,3 +58,5 @@ ceiling-grows q N C D n l d = rw (within q N C n (omega arith), within q N D n d
     go : (z : Bool) → cond z C (generation_ceiling q N C) ≤ cond z D (generation_ceiling q N D)
     go true = l
     go false = mul-le-mul {n₁ = N} {m₁ = per_slot q + C} {n₂ = N} {m₂ = per_slot q + D} (omega arith) (omega arith)
+
+pub ruleset ceilings = (no_slots, no-dims, before-slots, with-slots)

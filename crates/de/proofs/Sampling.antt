@@ -1,5 +1,5 @@
 -- The whole call by its tests: which refusal is given, and that what is returned is the definition's, laid out.
-use Rattle.std.specs.Prelude.{Option, Some, None, Result, Ok, Err, OnErr, ⊤, is_none}
+use Rattle.std.specs.Prelude.{Option, Some, None, Result, Ok, Err, OnErr, ⊤, is_none, unwrap_or}
 use Rattle.std.specs.Result.{result_and}
 use Prim.Native.Nat.{ℕ, suc, ◌+◌}
 use mathlib.Core.Path.{◌≡◌, refl, sym, ap, ◌∙◌}
@@ -16,7 +16,6 @@ use Rattle.distribution.specs.declared.Distribution.{Distribution}
 use Rattle.distribution.specs.declared.Refusal.{Refusal}
 use Rattle.distribution.specs.declared.Refusal.TheVariants.{StateNotSound, HistoryNan, Dimensions, ExtraTrials, EntryNan}
 use Rattle.distribution.specs.declared.ParamValue.{ParamValue}
-use Rattle.rng_util.specs.declared.Gen.{Gen}
 use Rattle.evolution.specs.declared.Setup.{Setup}
 use Rattle.history.specs.declared.Gathered.{Gathered}
 use Rattle.ledger.specs.Words.{or_else, refuse_if, has}
@@ -31,14 +30,15 @@ use Rattle.state.specs.Sound.{sound_state, Few}
 use Rattle.state.specs.View.{view, laid, size_in}
 use Rattle.state.specs.declared.State.{State}
 use Rattle.state.proofs.Tidy as Tidy
-use Rattle.assignment.specs.Raw.{place_of, Given, given_ok}
+use Rattle.assignment.specs.Raw.{place_of, Given, given as taken, given_ok}
 use Rattle.assignment.specs.Laid.{laid_given, laid_accepted}
 use Rattle.assignment.proofs.Refine.{place-laid}
 use Rattle.closing.specs.Raw.{closes_now}
+use Rattle.common.specs.Bounds.{zero_f}
 use Rattle.de.specs.Answer.{numbered, sampled}
 use Rattle.de.specs.Refusing.{count_refusal, first_refusal}
 use Rattle.de.specs.Sample.{laid_result}
-use Rattle.de.specs.Gathered.{refusal_on, accept_on, refusal, step_on, sampled_on, row_if, row_in}
+use Rattle.de.specs.Gathered.{refusal_on, accept_on, accepted_on, refusal, step_on, sampled_on, row_if, row_in, results_in}
 use Rattle.de.specs.Whole.{Acceptable, Handed}
 
 -- ---- numbers of refusals
@@ -89,10 +89,10 @@ module _ (s : State) (g : Gathered) (h : Handed s g) (e : sound_state s ≡ true
   few = Tidy.sound-few s e h.arrays
 
   abbrev row : Option (List Float)
-  row = row_in s g.found g.values
+  row = row_in s g.values
 
   abbrev closes : Bool
-  closes = closes_now s.discovered s.n s.n_trials g.found
+  closes = closes_now s.discovered s.n s.n_trials g.values
 
   dims-are : s.n_dims ≡ length m.dims
   unfolding laid
@@ -116,7 +116,7 @@ module _ (s : State) (g : Gathered) (h : Handed s g) (e : sound_state s ≡ true
   unfolding count_refusal refusal_on view
   counts-are true q =
       if-number (not closes && (leb s.n_trials (place_of s n) && leb (s.n + 64) s.n_trials)) ExtraTrials
-      ∙ (λ i. refuse_if (sym (no_row closes (take s.n g.values)) i && (full_is i && leb (s.n + 64) (trials-are i))) 10)
+      ∙ (λ i. refuse_if (sym (no_row closes (take s.n (results_in g.values))) i && (full_is i && leb (s.n + 64) (trials-are i))) 10)
   counts-are false q =
       if-number (discovers s.first n && leb 16 s.n_dims) Dimensions
       ∙ ap (λ (k : ℕ). refuse_if (discovers s.first n && leb 16 k) 9) dims-are
@@ -135,8 +135,8 @@ module _ (s : State) (g : Gathered) (h : Handed s g) (e : sound_state s ≡ true
     sampled-is o q = rw (e, q)
 
     -- refused
-    pub refused : (r : Refusal) (g' : Gen) → verdict ≡ Err r → numbered (sampled (Err r) g' s) ≡ sampled_on s d n g.nan row
-    refused r g' q =
+    pub refused : (r : Refusal) → verdict ≡ Err r → numbered (sampled (Err r) s) ≡ sampled_on s d n g.nan row
+    refused r q =
         sym (sampled-is (Some (refusal_number r)) (sym refusal_is ∙ ap refusal_of q) ∙ ap (refuse de (refusal_number r)) (sym is))
 
     -- accepted
@@ -153,35 +153,35 @@ module _ (s : State) (g : Gathered) (h : Handed s g) (e : sound_state s ≡ true
           go true (Some r) p x = absurd (none≢some (sym x))
           go false o p x = refl
 
-      pub acceptable : Acceptable s d n cl g.values
+      pub acceptable : Acceptable s d n cl (results_in g.values)
       acceptable =
           record {
             arrays = h.arrays;
             sound = e;
-            unrefused = (λ i. refusal m n d (sym no_nan i) (row_if (ec i) (take s.n g.values))) ∙ unrefused;
-            places = h.places;
+            unrefused = (λ i. refusal m n d (sym no_nan i) (row_if (ec i) (take s.n (results_in g.values)))) ∙ unrefused;
+            places = length-map g.values (λ (v : Option Float). unwrap_or v zero_f) ∙ h.places;
             closing = λ y. found s.discovered (sym ec ∙ y);
             numbers = λ y. h.numbers e no_nan (sym ec ∙ y);
           }
         where
-          found : (b : Bool) → closes_now b s.n s.n_trials g.found ≡ true → b ≡ true
+          found : (b : Bool) → closes_now b s.n s.n_trials g.values ≡ true → b ≡ true
           found true x = refl
           found false x = unfold closes_now in absurd (true≢false (sym x))
 
-      accepted-on : accept_on S m.size m n d (row_if cl (take s.n g.values)) ≡ accept_on S m.size m n d row
-      accepted-on = ap (λ (b : Bool). accept_on S m.size m n d (row_if b (take s.n g.values))) ec
+      accepted-on : accept_on S m.size m n d (row_if cl (take s.n (results_in g.values))) ≡ accept_on S m.size m n d row
+      accepted-on = ap (λ (b : Bool). accept_on S m.size m n d (row_if b (take s.n (results_in g.values)))) ec
 
-      pub given : (a : Result ParamValue Refusal) (g' : Gen) (t : State) → given_ok a g' t ≡ laid_accepted S (accept_on S m.size m n d (row_if cl (take s.n g.values)))
-          → OnErr a (t ≡ s) → numbered (sampled a g' t) ≡ sampled_on s d n g.nan row
-      given a g' t e k = go a (accept_on S m.size m n d row) (e ∙ ap (laid_accepted S) accepted-on) k ∙ sym (sampled-is None unrefused)
+      pub given : (a : Result (ParamValue × ℕ) Refusal) (t : State) → given_ok a t ≡ laid_accepted S (accepted_on s d n cl (results_in g.values))
+          → OnErr a (t ≡ s) → numbered (sampled a t) ≡ sampled_on s d n g.nan row
+      given a t e k = go a (accept_on S m.size m n d row) (e ∙ ap (laid_accepted S) accepted-on) k ∙ sym (sampled-is None unrefused)
         where
-          go : (a : Result ParamValue Refusal) (o : Option (Taken de)) → given_ok a g' t ≡ laid_accepted S o → OnErr a (t ≡ s) → numbered (sampled a g' t) ≡ laid_result S (outcome de m None o)
-          go (Ok x) (Some y) e k = let f : record { setting = x; draws = g'.draws; state = t } ≡ laid_given S y = cc in ap (λ (z : Given). numbered (sampled (Ok z.setting) (record { word = 0; draws = z.draws }) z.state)) f
+          go : (a : Result (ParamValue × ℕ) Refusal) (o : Option (Taken de)) → given_ok a t ≡ laid_accepted S o → OnErr a (t ≡ s) → numbered (sampled a t) ≡ laid_result S (outcome de m None o)
+          go (Ok x) (Some y) e k = let f : taken x t ≡ laid_given S y = cc in ap (λ (z : Given). numbered (sampled (Ok (z.setting, z.draws)) z.state)) f
           go (Ok x) None e k = absurd cc
           go (Err r) None e k = let f : r ≡ EntryNan = cc in rw (f, k) (ap (refuse de 11) is)
           go (Err r) (Some y) e k = absurd cc
 
 -- refusal 0
-pub not-sound : (s : State) (g : Gen) (d : Distribution) (n : ℕ) (b : Bool) (o : Option (List Float)) → sound_state s ≡ false → numbered (sampled (Err StateNotSound) g s) ≡ sampled_on s d n b o
+pub not-sound : (s : State) (d : Distribution) (n : ℕ) (b : Bool) (o : Option (List Float)) → sound_state s ≡ false → numbered (sampled (Err StateNotSound) s) ≡ sampled_on s d n b o
 unfolding sampled_on
-not-sound s g d n b o e = rw e
+not-sound s d n b o e = rw e

@@ -1,8 +1,6 @@
 -- What a call asks of its history before it is scanned: the first N open trials' results, where "at least N trials are assigned".
-use Rattle.std.specs.Prelude.{ℕ, ◌-◌, ◌^◌, min, max, Bool, false, cond, fold, List, leb, length, get_or, replicate}
+use Rattle.std.specs.Prelude.{ℕ, ◌-◌, ◌^◌, min, max, Bool, cond, fold, List, leb, get_or}
 use Rattle.rng_util.specs.Many.{pad_to, listed}
-use Rattle.common.specs.Bounds.{zero_f}
-use Rattle.history.specs.declared.Gathered.{Gathered}
 use Rattle.state.specs.Blank.{blank_trial}
 use Rattle.state.specs.declared.TrialProgress.{TrialProgress}
 use Rattle.de.specs.declared.ask.Asked.{Asked}
@@ -28,9 +26,5 @@ least_of = fold min (2 ^ 64 - 1)
 abbrev pub most_of : List ℕ → ℕ
 most_of = fold max 0
 
--- nothing found yet
-abbrev pub wanted_of : List ℕ → Gathered
-wanted_of ns = record { nan = false; n = length ns; numbers = numbers_rec ns; found = replicate 160 false; values = replicate 160 zero_f }
-
 unfoldable pub asked_of : List ℕ → Asked
-asked_of ns = record { lo = least_of ns; hi = most_of ns; wanted = wanted_of ns }
+asked_of ns = record { lo = least_of ns; hi = most_of ns; numbers = numbers_rec ns }

@@ -9,7 +9,7 @@ use Rattle.state.specs.View.{view}
 use Rattle.state.specs.declared.State.{State}
 use Rattle.history.specs.declared.Gathered.{Gathered}
 use Rattle.closing.specs.Raw.{closes_now}
-use Rattle.de.specs.Gathered.{refusal, row_if}
+use Rattle.de.specs.Gathered.{refusal, row_if, results_in}
 
 -- what the tests before leave: a sound state, none of the refusals 4 to 10, and counted results that are numbers
 pub record Acceptable (s : State) (d : Distribution) (n : ℕ) (closes : Bool) (results : List Float) : Type 0 where
@@ -22,7 +22,8 @@ pub record Acceptable (s : State) (d : Distribution) (n : ℕ) (closes : Bool) (
 
 -- what a scan leaves: where a generation closes and no value is NaN, the counted results are numbers
 abbrev pub Numbers : State → Gathered → Type 0
-Numbers s g = sound_state s ≡ true → g.nan ≡ false → closes_now s.discovered s.n s.n_trials g.found ≡ true → All (λ v. v ≢ nan) (take s.n g.values)
+Numbers s g =
+    sound_state s ≡ true → g.nan ≡ false → closes_now s.discovered s.n s.n_trials g.values ≡ true → All (λ v. v ≢ nan) (take s.n (results_in g.values))
 
 -- what a call is handed: a state and what a scan leaves, with arrays as long as their types say
 pub record Handed (s : State) (g : Gathered) : Type 0 where

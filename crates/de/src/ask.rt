@@ -2,19 +2,18 @@
 ghost use Rattle.std.specs.Prelude.{◌≡◌, ◌≤◌, length, map};
 ghost use Rattle.de.specs.Ask.{wanted_count, first_numbers, least_of, most_of, asked_of};
 
-use history::Gathered;
 use state::State;
 
-// The scan's start, and between which numbers all wanted ones lie.
+// The wanted numbers, in the first places, and between which numbers they lie.
 #[derive(Clone, Copy)]
 pub struct Asked {
     pub lo: u64,
     pub hi: u64,
-    pub wanted: Gathered,
+    pub numbers: [u64; 160],
 }
 
 // How many results are wanted. A state that is not sound may have any counts: then none are.
-fn wanted_count(state: &State) -> usize
+pub(crate) fn wanted_count(state: &State) -> usize
     ensures is { result ≡ wanted_count state.now.discovered state.now.n state.now.n_trials }
     ensures few { result ≤ 160 }
 {
@@ -38,6 +37,7 @@ fn most(numbers: &[u64]) -> u64
 }
 
 // What the next call of a state wants. No number lies between lo and hi where none is wanted.
+#[tactic(auto, using(crate::proofs::Asking::asking))]
 pub fn ask(state: &State) -> Asked
     ensures { result ≡ asked_of (first_numbers state.now.trials (wanted_count state.now.discovered state.now.n state.now.n_trials)) }
 {
@@ -49,12 +49,6 @@ pub fn ask(state: &State) -> Asked
     Asked {
         lo: least(&numbers[..n]),
         hi: most(&numbers[..n]),
-        wanted: Gathered {
-            nan: false,
-            n,
-            numbers,
-            found: [false; 160],
-            values: [0.0; 160],
-        },
+        numbers,
     }
 }

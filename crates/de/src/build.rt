@@ -3,7 +3,7 @@ ghost use Rattle.std.specs.Prelude.{◌≡◌};
 ghost use Rattle.de.specs.Build.{defaults, with_size, with_factor, with_rate, with_strategy, with_seed, built_of, built_refusal, setup_refusal, fresh_state};
 
 use candidates::Candidate;
-use distribution::{CategoricalDistribution, DimensionInfo, Distribution, Refusal};
+use distribution::{DimensionInfo, Refusal};
 use evolution::{DEStrategy, Setup};
 use selection::blank_member;
 use state::{State, TrialProgress};
@@ -74,27 +74,21 @@ impl DESamplerBuilder {
 }
 
 // The fresh state: what an accepted set-up returns. Of a set-up that is not accepted the state is not sound.
+#[tactic(auto, unfolding(crate::specs::Build::fresh_state, state::specs::View::laid, ledger::specs::State::fresh))]
 pub fn new_state(setup: Setup) -> State
     ensures { result ≡ fresh_state setup }
 {
-    let d = DimensionInfo {
-        distribution: Distribution::Categorical(CategoricalDistribution { n_choices: 0 }),
-    };
-    let t = TrialProgress {
-        number: 0,
-        next_dim: 0,
-    };
     State {
         setup,
         first: None,
         discovered: false,
         n: 0,
         n_dims: 0,
-        dims: [d; 16],
+        dims: [DimensionInfo::blank(); 16],
         candidates: [Candidate::blank(); 224],
         parents: [blank_member(); 160],
         n_trials: 0,
-        trials: [t; 224],
+        trials: [TrialProgress::blank(); 224],
         best: 0,
         word: setup.seed,
         closed: 0,

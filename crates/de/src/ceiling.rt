@@ -5,7 +5,7 @@ ghost use Rattle.de.specs.Ceiling.{ceiling_for};
 
 use evolution::DEStrategy;
 
-// 1,024 draws for each index of a slot's mutation.
+// 1,024 draws for each index of a slot's mutation. It has the shape of evolution's `index_count` and another meaning.
 fn per_slot(strategy: DEStrategy) -> u64
     ensures { result ≡ per_slot strategy }
 {
@@ -18,6 +18,7 @@ fn per_slot(strategy: DEStrategy) -> u64
 
 // What a sample call draws at most that leaves n slots (0 before discovery has ended) and n_dims dimensions. No sampler has
 // more than 160 slots or 16 dimensions, and there it is 0.
+#[tactic(auto, using(crate::proofs::Ceilings::ceilings))]
 pub fn draw_ceiling(n: u64, n_dims: u64, strategy: DEStrategy) -> u64
     ensures { result ≡ ceiling_for strategy n n_dims }
 {

@@ -1,17 +1,18 @@
 // The sample call (sampler/de.rs, `sample`): refusals first, then discovery, closing and assignment.
-ghost use Rattle.std.specs.Prelude.{◌≡◌, ◌≤◌, take, OnErr};
-ghost use Rattle.assignment.specs.Raw.{given_ok, start_of};
+ghost use Rattle.std.specs.Prelude.{◌≡◌, ◌≤◌, length, OnErr};
+ghost use Rattle.rng_util.specs.Gen.{fresh, handed_on};
+ghost use Rattle.closing.specs.Raw.{Closable, raw_close};
+ghost use Rattle.assignment.specs.Raw.{given_ok};
 ghost use Rattle.assignment.specs.Laid.{laid_accepted};
-ghost use Rattle.de.specs.Answer.{numbered, sampled};
-ghost use Rattle.de.specs.Gathered.{accept_on, sampled_on, row_if, row_in};
+ghost use Rattle.de.specs.Answer.{numbered, returned, sampled};
+ghost use Rattle.de.specs.Gathered.{accepted_on, sampled_on, row_in, results_in};
 ghost use Rattle.de.specs.Refusing.{count_refusal, first_refusal};
 ghost use Rattle.de.specs.Sample.{sample_of};
 ghost use Rattle.de.specs.Whole.{Acceptable, Handed};
 ghost use Rattle.history.specs.Scan.{trials_of};
-ghost use Rattle.state.specs.View.{view};
 
 use crate::Sampled;
-use crate::ask::ask;
+use crate::ask::{ask, wanted_count};
 use assignment::discovery::{discovers, finalize_discovery, sample_discovery};
 use assignment::places::place_of;
 use assignment::sample_active;
@@ -55,6 +56,23 @@ pub fn refusal_of(d: Distribution, nan: bool, counts: Result<(), Refusal>) -> Re
     counts
 }
 
+// What the history gives the wanted trials, as results; where it gives none, 0, which no closing counts.
+fn results_of(values: &[Option<f64>; 160]) -> [f64; 160]
+    ensures { result ≡ results_in values.now }
+{
+    values.map(|value| value.unwrap_or(0.0))
+}
+
+// The generation closes with what the history gives its trials. A refusal leaves the state as it was.
+fn close_with(state: &mut State, values: &[Option<f64>; 160]) -> Result<Gen, Refusal>
+    requires { Closable state.old × (state.old.n ≤ length (results_in values.now)) }
+    ensures made { handed_on result state.new ≡ raw_close state.old (results_in values.now) (fresh state.old.word) }
+    ensures kept { OnErr result (state.new ≡ state.old) }
+{
+    let results = results_of(values);
+    close(state, &results)
+}
+
 // A call that no refusal of 0 and 4 to 10 stops: it may close a generation or end discovery first. Refusal 11 leaves the
 // state as it was.
 fn accept(
@@ -62,48 +80,46 @@ fn accept(
     d: Distribution,
     trial: u64,
     closes: bool,
-    results: &[f64],
-    rng: &mut Gen,
-) -> Result<ParamValue, Refusal>
-    requires acceptable { Acceptable state.old d trial closes results.now }
-    requires begins { rng.old ≡ start_of state.old }
-    ensures made { given_ok result rng.new state.new ≡ laid_accepted state.old.setup (accept_on state.old.setup (view state.old).size (view state.old) trial d (row_if closes (take state.old.n results.now))) }
+    values: &[Option<f64>; 160],
+) -> Result<(ParamValue, u64), Refusal>
+    requires { Acceptable state.old d trial closes (results_in values.now) }
+    ensures made { given_ok result state.new ≡ laid_accepted state.old.setup (accepted_on state.old d trial closes (results_in values.now)) }
     ensures kept { OnErr result (state.new ≡ state.old) }
 {
     if state.discovered {
-        if closes {
-            close(state, results, rng)?;
-        }
+        let rng = if closes {
+            close_with(state, values)?
+        } else {
+            Gen::new(state.word)
+        };
         return sample_active(state, d, trial, rng);
     }
     if discovers(state.first, trial) {
-        return Ok(sample_discovery(state, d, trial, rng));
+        return Ok(sample_discovery(state, d, trial));
     }
-    finalize_discovery(state, rng)?;
+    let rng = finalize_discovery(state)?;
     sample_active(state, d, trial, rng)
 }
 
-// A call of any kind, given what its history has.
+// A call of any kind, given what its history has: the setting and its draws.
 fn sample_any(
     state: &mut State,
     d: Distribution,
     trial: u64,
     g: &Gathered,
-    rng: &mut Gen,
-) -> Result<ParamValue, Refusal>
-    requires handed { Handed state.old g.now }
-    requires begins { rng.old ≡ start_of state.old }
-    ensures { numbered (sampled result rng.new state.new) ≡ sampled_on state.old d trial g.now.nan (row_in state.old g.now.found g.now.values) }
+) -> Result<(ParamValue, u64), Refusal>
+    requires { Handed state.old g.now }
+    ensures { numbered (sampled result state.new) ≡ sampled_on state.old d trial g.now.nan (row_in state.old g.now.values) }
 {
     if !state.is_sound() {
         return Err(Refusal::StateNotSound);
     }
-    let closes = closes_now(state.discovered, state.n, state.n_trials, &g.found);
+    let closes = closes_now(state.discovered, state.n, state.n_trials, &g.values);
     let place = place_of(state.trials(), trial);
     let of_discovery = discovers(state.first, trial);
     let counts = count_refusal(state, of_discovery, closes, place);
     refusal_of(d, g.nan, counts)?;
-    accept(state, d, trial, closes, &g.values, rng)
+    accept(state, d, trial, closes, &g.values)
 }
 
 // The call, given what its history has: its answer and its draws. A refusal counts none.
@@ -114,12 +130,12 @@ fn sample_gathered(
     g: &Gathered,
 ) -> (Result<ParamValue, Refusal>, u64)
     requires { Handed state.old g.now }
-    ensures { numbered (record { answer = result.0; draws = result.1; state = state.new }) ≡ sampled_on state.old d trial g.now.nan (row_in state.old g.now.found g.now.values) }
+    ensures { numbered (returned result state.new) ≡ sampled_on state.old d trial g.now.nan (row_in state.old g.now.values) }
 {
-    let mut rng = Gen::new(state.word);
-    let answer = sample_any(state, d, trial, g, &mut rng);
-    let draws = if answer.is_ok() { rng.draws } else { 0 };
-    (answer, draws)
+    match sample_any(state, d, trial, g) {
+        Ok((setting, draws)) => (Ok(setting), draws),
+        Err(refusal) => (Err(refusal), 0),
+    }
 }
 
 // The sample call over two plain slices, a number and a value for each entry of the history.
@@ -133,7 +149,8 @@ pub fn sample_slices<'a>(
     ensures { numbered result ≡ sample_of state distribution trial (trials_of numbers.now values.now) }
 {
     let asked = ask(&state);
-    let g = gather_slices(numbers, values, asked.lo, asked.hi, asked.wanted);
+    let wanted = &asked.numbers[..wanted_count(&state)];
+    let g = gather_slices(numbers, values, asked.lo, asked.hi, wanted, Gathered::new());
     let (answer, draws) = sample_gathered(&mut state, distribution, trial, &g);
     Sampled {
         answer,
@@ -142,7 +159,8 @@ pub fn sample_slices<'a>(
     }
 }
 
-// The sample call over a slice of completed trials.
+// The sample call over a slice of completed trials. Both calls ask, scan and put together: a closure for the scan would say its
+// contract in two clauses, and what they share beside it is `sample_gathered`.
 pub fn sample(
     mut state: State,
     distribution: Distribution,
@@ -152,7 +170,8 @@ pub fn sample(
     ensures { numbered result ≡ sample_of state distribution trial history.now }
 {
     let asked = ask(&state);
-    let g = gather(history, asked.lo, asked.hi, asked.wanted);
+    let wanted = &asked.numbers[..wanted_count(&state)];
+    let g = gather(history, asked.lo, asked.hi, wanted, Gathered::new());
     let (answer, draws) = sample_gathered(&mut state, distribution, trial, &g);
     Sampled {
         answer,
