@@ -1,20 +1,19 @@
 -- One turn of the loop that reads digits, by what is left to read. A number once past 64 bits stays past them, whatever follows.
-use Rattle.std.proofs.Common.{◌≡◌, ℕ, ◌+◌, ◌*◌, ◌<◌, ◌≤◌, ◌^◌, List, [], ◌∷◌, length, get_or, drop, ltb, Option, Some, None, refl, ◌∙◌, arith, unwrap_or, drop-cons, add-one, option_and_then}
+use Rattle.std.proofs.Common.{◌≡◌, ℕ, ◌+◌, ◌*◌, ◌<◌, ◌≤◌, ◌^◌, List, [], ◌∷◌, length, get_or, drop, ltb, Some, None, refl, ◌∙◌, arith, drop-cons, add-one}
 use Rattle.std.specs.Bool.{then_some}
 use Rattle.std.proofs.Math.ListN.{drop_of_length-le}
 use Rattle.std.proofs.Math.Nat.{le_trans, mul-le-mul_left, mul-one}
 use Rattle.std.proofs.Math.Bool.{and-false}
 use Rattle.std.proofs.lemmas.Bool.{lt-ltb, le-ltb}
 use Rattle.std.proofs.lemmas.Bool.Decides.{nat_tests}
-use Rattle.numbers.specs.Numbers.{digit_of, digit_in, all_digits, spelt_after, number_after}
+use Rattle.numbers.specs.Numbers.{digit_of, digit_in, counted, all_digits, spelt_after, number_after}
 
--- a digit of a base is a digit, and below the base
-pub digit_in-some : (base b d : ℕ) → digit_in base b ≡ Some d → (digit_of b ≡ Some d) × (d < base)
-digit_in-some base b d = go (digit_of b)
+-- a digit of a base counts for less than the base
+pub digit_in-some : (base b d : ℕ) → digit_in base b ≡ Some d → (counted b ≡ d) × (d < base)
+digit_in-some base b d = go (counted b)
   where
-    go : (o : Option ℕ) → option_and_then (λ e. then_some (ltb e base) e) o ≡ Some d → (o ≡ Some d) × (d < base)
-    go None h = cc
-    go (Some e) h = grind (arith, nat_tests)
+    go : (e : ℕ) → then_some (ltb e base) e ≡ Some d → (e ≡ d) × (d < base)
+    go e h = grind (arith, nat_tests)
 
 -- every digit is one of base 16
 pub sixteen : (b : ℕ) → digit_in 16 b ≡ digit_of b
@@ -25,12 +24,12 @@ sixteen b = grind (arith, nat_tests)
 grows : (base : ℕ) → 0 < base → (s : List ℕ) (v : ℕ) → v ≤ spelt_after base v s
 unfolding spelt_after
 grows base p [] v = omega arith
-grows base p (b ∷ bs) v = le_trans (up v (unwrap_or (digit_of b) 0)) (grows base p bs (v * base + unwrap_or (digit_of b) 0))
+grows base p (b ∷ bs) v = le_trans (up v (counted b)) (grows base p bs (v * base + counted b))
   where
     up : (v d : ℕ) → v ≤ v * base + d
     up v d = omega (arith, mul-le-mul_left {m = 1} {n = base} v p, mul-one v)
 
-spelt-cons : (base v b : ℕ) (bs : List ℕ) → spelt_after base v (b ∷ bs) ≡ spelt_after base (v * base + unwrap_or (digit_of b) 0) bs
+spelt-cons : (base v b : ℕ) (bs : List ℕ) → spelt_after base v (b ∷ bs) ≡ spelt_after base (v * base + counted b) bs
 unfolding spelt_after
 spelt-cons base v b bs = refl
 

@@ -13,17 +13,17 @@ use lib.ListN.{length, length-append}
 use borrow.Author.Tests.{lt-ltb, ne_eqb}
 use Rattle.std.proofs.lemmas.Bool.Decides.{nat_tests}
 use Rattle.io.specs.Digits.{last_digits, hex_digit_ascii}
-use Rattle.std.specs.Prelude.{Some, is_some, unwrap_or}
-use Rattle.numbers.specs.Numbers.{digit_of, digit_in, all_digits, spelt_after, number_of, whole_of, pattern_of, double_of}
+use Rattle.std.specs.Prelude.{Some, is_some}
+use Rattle.numbers.specs.Numbers.{digit_of, digit_in, counted, all_digits, spelt_after, number_of, whole_of, pattern_of, double_of}
 
 of-glyph : (d : ℕ) → d < 16 → digit_of (hex_digit_ascii d) ≡ Some d
 unfolding digit_of
 of-glyph d h = grind (arith, nat_tests)
 
-spelt-snoc : (base : ℕ) (s : List ℕ) (b v : ℕ) → spelt_after base v (s ++ (b ∷ [])) ≡ spelt_after base v s * base + unwrap_or (digit_of b) 0
+spelt-snoc : (base : ℕ) (s : List ℕ) (b v : ℕ) → spelt_after base v (s ++ (b ∷ [])) ≡ spelt_after base v s * base + counted b
 unfolding spelt_after
 spelt-snoc base [] b v = refl
-spelt-snoc base (a ∷ s) b v = spelt-snoc base s b (v * base + unwrap_or (digit_of a) 0)
+spelt-snoc base (a ∷ s) b v = spelt-snoc base s b (v * base + counted a)
 
 digits-snoc : (base : ℕ) (s : List ℕ) (b : ℕ) → all_digits base (s ++ (b ∷ [])) ≡ all_digits base s && is_some (digit_in base b)
 unfolding all_digits

@@ -13,9 +13,13 @@ between first last b = leb (code first) b && leb b (code last)
 unfoldable pub digit_of : ℕ → Option ℕ
 digit_of b = cond (between "0" "9" b) (Some (b - code "0")) (cond (between "a" "f" b) (Some (b - code "a" + 10)) None)
 
+-- what a byte counts for: its value; 99, which no base below 100 has, where it is no digit
+abbrev pub counted : ℕ → ℕ
+counted b = unwrap_or (digit_of b) 99
+
 -- the value of a digit of the base; any other byte is none
 abbrev pub digit_in : ℕ → ℕ → Option ℕ
-digit_in base b = option_and_then (λ d. then_some (ltb d base) d) (digit_of b)
+digit_in base b = then_some (ltb (counted b) base) (counted b)
 
 -- each byte is a digit of the base
 unfoldable pub all_digits : ℕ → List ℕ → Bool
@@ -25,7 +29,7 @@ all_digits base (b ∷ bs) = is_some (digit_in base b) && all_digits base bs
 -- the number that digits spell, the most significant first, after digits that spell v
 unfoldable pub spelt_after : ℕ → ℕ → List ℕ → ℕ
 spelt_after base v [] = v
-spelt_after base v (b ∷ bs) = spelt_after base (v * base + unwrap_or (digit_of b) 0) bs
+spelt_after base v (b ∷ bs) = spelt_after base (v * base + counted b) bs
 
 -- the number that bytes spell after v, where they are digits and it fits 64 bits
 abbrev pub number_after : ℕ → ℕ → List ℕ → Option ℕ

@@ -18,11 +18,12 @@ pub fn digit(b: u8) -> Option<u64>
     }
 }
 
-// The value of a digit of the base.
+// The value of a digit of the base. A byte that is no digit counts for 99, which no base below 100 has.
 fn digit_in(b: u8, base: u64) -> Option<u64>
     ensures { result ≡ digit_in base b }
 {
-    digit(b).filter(|d| *d < base)
+    let d = digit(b).unwrap_or(99);
+    (d < base).then_some(d)
 }
 
 // The number that s spells in base, unless it passes 64 bits on the way.
