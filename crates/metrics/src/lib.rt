@@ -3,7 +3,7 @@
 #![tactic(auto)]
 
 ghost use Rattle.std.specs.Prelude.{min, ◌≡◌, length};
-ghost use Rattle.metrics.specs.Export.{export_of, answer_of, left_in, entry_of, number_of, value_of};
+ghost use Rattle.metrics.specs.Export.{export_refusal_number, export_of, answer_of, left_in, entry_of, number_of, value_of};
 
 use entries::Entries;
 use history::CompletedTrial;
@@ -21,7 +21,20 @@ pub enum ExportRefusal {
     ShortHistory,
 }
 
+impl ExportRefusal {
+    // The number that callers know an export's refusal by.
+    pub fn number(self) -> u64
+        ensures { result ≡ export_refusal_number self }
+    {
+        match self {
+            ExportRefusal::MalformedLine(_) => 14,
+            ExportRefusal::ShortHistory => 15,
+        }
+    }
+}
+
 // Every line is read, and nothing written: 14 comes first, then 15 where the entries are more than the lent places.
+// Counted by hand: `Entries` says which entries come, and not what is left behind the last, so its `count` leaves `returns` open.
 #[tactic(auto, using(crate::proofs::Lines::judged))]
 fn judge(text: &[u8], places: usize) -> Result<usize, ExportRefusal>
     ensures { result ≡ answer_of places (export_of text.now) }
@@ -64,6 +77,8 @@ pub fn read_history_slices(
 }
 
 // The export read into a lent history: how many entries there are.
+// The loop of the other form again: one loop for both would hand each entry to an `FnMut` that writes to one slice here and to two there, and the
+// law of what that closure has written would be longer than the loop.
 #[tactic(auto, using(crate::proofs::Writes::writes))]
 pub fn read_history(text: &[u8], history: &mut [CompletedTrial]) -> Result<usize, ExportRefusal>
     ensures { let places = length history.old in

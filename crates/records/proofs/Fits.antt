@@ -4,8 +4,7 @@ use Prim.Native.Nat.{ℕ, zero, suc, ◌+◌, ◌*◌, ◌%◌, ◌^◌, ◌≤�
 use native.Mathlib.Omega.{arith}
 use mathlib.Core.Bool.{false, ◌||◌}
 use mathlib.Core.List.Memᴰ
-use mathlib.Core.List.{List, [], ◌∷◌, ◌++◌}
-use mathlib.Core.Logic.{⊎_elim}
+use mathlib.Core.List.{List, [], ◌∷◌}
 use mathlib.Core.Path.{◌≡◌, refl, sym, ap, ◌∙◌, subst}
 use borrow.Author.Tests.{ne_eqb, lt-leb}
 use lib.Dec.{eqb, leb}
@@ -32,9 +31,6 @@ pieces-fit kind ws zero k h l v a t = absurd (Memᴰ.not-nil t)
 pieces-fit kind ws (suc m) k h l v a (Memᴰ.head q) =
     subst Fit (sym q) (record { kind = h; position = omega arith; first = at_small ws (3 * k) v; second = at_small ws (3 * k + 1) v; third = at_small ws (3 * k + 2) v })
 pieces-fit kind ws (suc m) k h l v a (Memᴰ.tail t) = pieces-fit kind ws m (k + 1) h (omega arith) v a t
-
-both-fit : (ps qs : List Piece) → All Fit ps → All Fit qs → All Fit (ps ++ qs)
-both-fit ps qs h k a m = ⊎_elim (h a) (k a) (Memᴰ.append_cases ps m)
 
 -- ---- a file of records
 

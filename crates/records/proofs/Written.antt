@@ -122,9 +122,6 @@ module _ (F : List ℕ) (count : ℕ) (c : record_count F ≡ count) (small : co
     piece_is : piece_at F k ≡ p
     piece_is = ap (λ (f : List ℕ). piece_at f k) q ∙ record-piece before rest k next p e n v
 
-  next-of : ℕ → ℕ
-  next-of k = cond (eqb (k + 1) count) 0 (k + 1)
-
   from : (ps : List Piece) (p : Piece) (fuel k : ℕ) (before : List ℕ) → F ≡ before ++ records_from count k (p ∷ ps) → length before ≡ 32 * k → count ≡ k + length (p ∷ ps)
       → length (p ∷ ps) ≤ fuel → Fit p → All Fit ps → chain_from F fuel k ≡ Some (p ∷ ps)
   unfolding records_from

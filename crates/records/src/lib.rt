@@ -6,7 +6,8 @@ pub mod chain;
 pub mod laid;
 pub mod tables;
 
-// What a record holds beside its next index.
+// What a record holds beside its next index. Its kind is a number, here and in the functions below: a file has any there,
+// and the enum of the six that are meant stands in a crate above (kinds).
 #[derive(Clone, Copy)]
 pub struct Piece {
     pub kind: u64,

@@ -37,7 +37,6 @@ use Rattle.candidates.specs.declared.Space.{Space}
 use Rattle.candidates.proofs.Passed.{few-continuous}
 use Rattle.evolution.specs.Cross.{judged_entry, cross_entry, cross_at, crossed}
 use Rattle.evolution.specs.Mutant.{no_member, entries, mutant_entry, mutant_at, indices_for}
-use Rattle.evolution.specs.Select.{is_free, select_from, first_index, second_index, indices_of}
 use Rattle.evolution.specs.Trial.{trial_of, trial_vectors, next_candidates}
 use Rattle.evolution.specs.declared.DEStrategy.{DEStrategy}
 use Rattle.evolution.specs.declared.DEStrategy.TheVariants.{Rand1, Best1, CurrentToBest1}
@@ -88,27 +87,6 @@ candidate-word s g w = choices-word s (random_entries s g).after (entries-word s
 candidates-word : (s : Space) (N : ℕ) (g : Gen) → Word g.word → Word (random_candidates s N g).after.word
 unfolding random_candidates
 candidates-word s N g w = many-word (candidate_at s) (λ j. candidate-word s) N 0 g w
-
-select_word : (N : ℕ) (ts : List ℕ) (k : ℕ) (g : Gen) → Word g.word → Word (select_from N ts k g).after.word
-unfolding select_from
-select_word N ts zero g w = w
-select_word N ts (suc k) g w = go (is_free ts (usize_of (draw_of g).out N)) (select_word N ts k (draw_of g).after (after-draw g))
-  where
-    go : (b : Bool) → Word (select_from N ts k (draw_of g).after).after.word
-        → Word (cond b (record { out = usize_of (draw_of g).out N; after = (draw_of g).after }) (select_from N ts k (draw_of g).after)).after.word
-    go true h = after-draw g
-    go false h = h
-
-third-word : (b : Bool) (N i : ℕ) (ts : List ℕ) (g : Gen) → Word g.word → Word (cond b (select_from N ts 1024 g) (record { out = i; after = g })).after.word
-third-word true N i ts g w = select_word N ts 1024 g w
-third-word false N i ts g w = w
-
-indices-word : (count N i : ℕ) (g : Gen) → Word g.word → Word (indices_of count N i g).after.word
-unfolding indices_of
-indices-word count N i g w =
-    let a = first_index N i g in
-    let b = second_index N i a in
-    third-word (eqb count 3) N i (i ∷ a.out ∷ b.out ∷ []) b.after (select_word N (i ∷ a.out ∷ []) 1024 a.after (select_word N (i ∷ []) 1024 g w))
 
 cross-word : (CR : Float) (star : ℕ) (v x : Float) (b : Bounds) (j : ℕ) (g : Gen) → Word g.word → Word (cross_entry CR star v x b j g).after.word
 unfolding cross_entry

@@ -24,7 +24,3 @@ module _ (old old' : State) where
   pub any-old : (bytes : List ℕ) → again (restore_of old' bytes) ≡ restore_of old bytes
   unfolding restore_of
   any-old bytes = by-read (state_read bytes)
-
-pub same_answer : (old : State) (a : Result ⊤ FileRefusal) (s : State) → (handed old a s).answer ≡ a
-same_answer old (Ok tt) s = refl
-same_answer old (Err r) s = refl

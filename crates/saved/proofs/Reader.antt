@@ -61,26 +61,6 @@ module _ (s : State) (f : List ℕ) where
           q ∙ sym ((λ i. cond (e i && le-leb (length (file_of s)) (length f) l i) (file_of s ++ drop (length (file_of s)) f) f)),
         )
 
--- ---- how many records, where the state is sound
-
-abbrev total_of : Bool → ℕ → Option ℕ
-total_of b n = cond b (Some n) None
-
-module _ (s : State) (o : Option ℕ) (e : o ≡ total_of (sound_state s) (length (pieces_of s))) where
-  known : (b : Bool) (n count : ℕ) → total_of b n ≡ Some count → (b ≡ true) × (count ≡ n)
-  known true n count q = let r : n ≡ count = cc in (refl, sym r)
-  known false n count q = let z : ◌≡◌ {A = ℕ} 0 1 = cc in absurd (omega arith)
-
-  unknown : (b : Bool) (n : ℕ) → total_of b n ≡ None → b ≡ false
-  unknown true n q = let z : ◌≡◌ {A = ℕ} 0 1 = cc in absurd (omega arith)
-  unknown false n q = refl
-
-  pub counted : (count : ℕ) → o ≡ Some count → (sound_state s ≡ true) × (count ≡ length (pieces_of s))
-  counted count q = known (sound_state s) (length (pieces_of s)) count (sym e ∙ q)
-
-  pub uncounted : o ≡ None → sound_state s ≡ false
-  uncounted q = unknown (sound_state s) (length (pieces_of s)) (sym e ∙ q)
-
 -- ---- the reader: what the chain holds
 
 pub walk-length : (f : List ℕ) (n k : ℕ) → length (walk f n k) ≡ n
@@ -178,3 +158,5 @@ module _ (f : List ℕ) where
 
     pub chain-read : (count : ℕ) → Some count ≡ chain_length (chain_of f) → (r : Result State FileRefusal) → r ≡ content_of (walk f count 0) → r ≡ state_read f
     chain-read count h r q = q ∙ (some_chain count (chain_of f) refl h).1 ∙ fits
+
+pub ruleset reads = (is-empty, is_odd, no-chain, walks, chain-read)

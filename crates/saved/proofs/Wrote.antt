@@ -7,12 +7,12 @@ use mathlib.Core.Bool.{true}
 use mathlib.Core.List.{List, [], ◌∷◌, ◌++◌}
 use lib.ListN.{length, drop, get_or, length-append, length-drop}
 use lib.Seq.{paste}
-use Rattle.state.specs.Sound.{sound_state}
+use Rattle.state.specs.Sound.{sound_state, Few}
 use Rattle.state.specs.View.{candidate_count, parent_count}
 use Rattle.state.specs.declared.State.{State}
-use Rattle.state.proofs.Measured.{Measured, arrays-of}
+use Rattle.state.proofs.Measured.{Measured}
 use Rattle.state.proofs.Tidy.{sound-few}
-use Rattle.state.proofs.Whole.{of-sound, few-candidates, few-parents}
+use Rattle.state.proofs.Whole.{few-candidates, few-parents}
 use Rattle.records.specs.Tables.{sections_to, records_for, pieces_from, section}
 use Rattle.records.specs.declared.Piece.{Piece}
 use Rattle.records.specs.Chain.{records_from, file_of_pieces}
@@ -136,10 +136,11 @@ module _ (s : State) (count : ℕ) (f : List ℕ) (c : count ≡ length (pieces_
 
 -- ---- how many records
 
+pub few-roomy : (s : State) → Few s → Roomy s
+few-roomy s f = record { dims = f.dims; trials = f.trials; candidates = few-candidates s f; parents = few-parents s f }
+
 pub roomy : (s : State) → Measured s → sound_state s ≡ true → Roomy s
-roomy s m e =
-    let few = sound-few s e m in
-    record { dims = (of-sound s (arrays-of m) e).few_dims; trials = few.trials; candidates = few-candidates s few; parents = few-parents s few }
+roomy s m e = few-roomy s (sound-few s e m)
 
 module _ (s : State) (m : Measured s) (r : Roomy s) where
   pub total : 6 + records_for (s.n_dims * 5) + records_for (s.n_trials * 2) + records_for (parent_count s * (s.n_dims + 1)) + records_for (candidate_count s * s.n_dims) ≡ length (pieces_of s)

@@ -5,7 +5,7 @@ ghost use Rattle.std.specs.Prelude.{◌≡◌, length, map};
 ghost use Rattle.records.specs.Chain.{walk, Walks};
 ghost use Rattle.records.specs.Tables.{table_of};
 ghost use Rattle.kinds.specs.Kinds.{kind_number};
-ghost use Rattle.saved.specs.Restore.{content_of, state_read, restore_of};
+ghost use Rattle.saved.specs.Restore.{file_refusal_number, content_of, state_read, restore_of};
 ghost use Rattle.saved.specs.Save.{save_of, saved_in};
 
 mod compared;
@@ -27,6 +27,18 @@ pub enum FileRefusal {
     BadContent,
 }
 
+impl FileRefusal {
+    // The number that callers know a file's refusal by.
+    pub fn number(self) -> u64
+        ensures { result ≡ file_refusal_number self }
+    {
+        match self {
+            FileRefusal::BadFile => 12,
+            FileRefusal::BadContent => 13,
+        }
+    }
+}
+
 // The state that the file holds; where it is refused, the one that came in.
 #[derive(Clone, Copy)]
 pub struct Restored {
@@ -38,7 +50,10 @@ pub struct Restored {
 pub fn save(state: &State, file: &mut [u8]) -> Result<usize, FileRefusal>
     ensures { (result ≡ save_of state.now (length file.old)) × (file.new ≡ saved_in state.now file.old) }
 {
-    let count = record_total(state).ok_or(FileRefusal::BadContent)?;
+    if !state.is_sound() {
+        return Err(FileRefusal::BadContent);
+    }
+    let count = record_total(state);
     if file.len() < 32 * count {
         return Err(FileRefusal::BadFile);
     }
@@ -65,8 +80,7 @@ fn content_of(file: &[u8], count: usize) -> Result<State, FileRefusal>
     let mut tables = [Table::new(); 6];
     collect_kinds(&mut tables, file, count);
     let state = state_in(&tables);
-    let total = record_total(&state).ok_or(FileRefusal::BadContent)?;
-    if count == total && kinds_hold(&state, &tables) {
+    if state.is_sound() && count == record_total(&state) && kinds_hold(&state, &tables) {
         Ok(state)
     } else {
         Err(FileRefusal::BadContent)
@@ -74,6 +88,7 @@ fn content_of(file: &[u8], count: usize) -> Result<State, FileRefusal>
 }
 
 // The state that the file holds, or why it holds none.
+#[tactic(auto, using(crate::proofs::Reader::reads))]
 pub fn read(file: &[u8]) -> Result<State, FileRefusal>
     ensures { result ≡ state_read file.now }
 {

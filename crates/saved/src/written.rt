@@ -1,6 +1,5 @@
 // A state's records, written.
-ghost use Rattle.std.specs.Prelude.{◌≡◌, ◌++◌, ◌*◌, ◌≤◌, cond, length, drop, IfSome};
-ghost use Rattle.state.specs.Sound.{sound_state};
+ghost use Rattle.std.specs.Prelude.{◌≡◌, ◌++◌, ◌*◌, ◌≤◌, length, drop};
 ghost use Rattle.kinds.specs.Kinds.{Roomy};
 ghost use Rattle.saved.specs.File.{pieces_of, file_of};
 
@@ -8,27 +7,20 @@ use kinds::kind::Kind;
 use kinds::sections::section_of;
 use records::laid::{put_section, records_for};
 use state::State;
-use state::sound::{candidate_count, parent_count};
 
-// How many records a sound state has: six for its set-up and its counts, and those of its four lists. None where it is not
-// sound.
-pub fn record_total(s: &State) -> Option<usize>
-    ensures total { result ≡ cond (sound_state s.now) (Some (length (pieces_of s.now))) None }
-    ensures roomy { IfSome result (λ total. Roomy s.now × (total ≤ 2285)) }
+// How many records a state has: six for its set-up and its counts, and those of its four lists.
+pub fn record_total(s: &State) -> usize
+    requires { Roomy s.now }
+    ensures total { result ≡ length (pieces_of s.now) }
+    ensures few { result ≤ 2285 }
 {
-    if !s.is_sound() {
-        return None;
-    }
     let dims = s.n_dims;
-    let parents = parent_count(s.closed, s.n);
-    let candidates = candidate_count(s.discovered, s.n, s.n_trials);
-    prove!(dims <= 16 && s.n_trials <= 224 && parents <= 160 && candidates <= 224);
-    let total = 6
-        + records_for(dims * 5)
+    let parents = s.parent_count();
+    let candidates = s.candidate_count();
+    6 + records_for(dims * 5)
         + records_for(s.n_trials * 2)
         + records_for(parents * (dims + 1))
-        + records_for(candidates * dims);
-    Some(total)
+        + records_for(candidates * dims)
 }
 
 // The state's records, `count` of them, kind by kind.
