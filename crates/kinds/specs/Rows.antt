@@ -12,6 +12,7 @@ use Rattle.distribution.specs.declared.Distribution.TheVariants as D
 use Rattle.common.specs.Places.{place_of, at_place}
 use Rattle.candidates.specs.Candidate.{packed}
 use Rattle.candidates.specs.declared.Candidate.{Candidate}
+use Rattle.evolution.specs.Strategy.{strategy_number}
 use Rattle.evolution.specs.declared.DEStrategy.{DEStrategy}
 use Rattle.evolution.specs.declared.DEStrategy.TheVariants.{Rand1, Best1, CurrentToBest1}
 use Rattle.evolution.specs.declared.Member.{Member}
@@ -41,9 +42,7 @@ word_option set w = cond (eqb set 0) None (Some w)
 -- ---- the set-up: F, CR, strategy (0 rand1, 1 best1, 2 current-to-best1), whether a size is set, the size, the seed
 
 abbrev pub strategy_word : DEStrategy → ℕ
-strategy_word Rand1 = 0
-strategy_word Best1 = 1
-strategy_word CurrentToBest1 = 2
+strategy_word t = strategy_number t
 
 abbrev pub word_strategy : ℕ → DEStrategy
 word_strategy w = cond (eqb w 0) Rand1 (cond (eqb w 1) Best1 CurrentToBest1)

@@ -1,6 +1,6 @@
 // The words of each part of a state, and each part from its words.
 ghost use Rattle.std.specs.Prelude.{◌≡◌, ◌≤◌, length};
-ghost use Rattle.kinds.specs.Rows.{strategy_word, word_strategy, word_option, setup_words, setup_in, dim_words, dim_in, trial_words, trial_in};
+ghost use Rattle.kinds.specs.Rows.{word_strategy, word_option, setup_words, setup_in, dim_words, dim_in, trial_words, trial_in};
 
 use common::places::{at_place, place};
 use distribution::{
@@ -10,16 +10,7 @@ use evolution::{DEStrategy, Setup};
 use numbers::{bits_of, real};
 use state::TrialProgress;
 
-fn strategy_word(s: DEStrategy) -> u64
-    ensures { result ≡ strategy_word s }
-{
-    match s {
-        DEStrategy::Rand1 => 0,
-        DEStrategy::Best1 => 1,
-        DEStrategy::CurrentToBest1 => 2,
-    }
-}
-
+// A file's word: of those that are no strategy's number, each is read as the last, and differs when the words are compared.
 fn word_strategy(w: u64) -> DEStrategy
     ensures { result ≡ word_strategy w }
 {
@@ -45,7 +36,7 @@ pub fn setup_row(s: Setup) -> [u64; 6]
     [
         bits_of(s.mutation_factor),
         bits_of(s.crossover_rate),
-        strategy_word(s.strategy),
+        s.strategy.number(),
         u64::from(size.is_some()),
         size.unwrap_or(0),
         s.seed,
@@ -66,6 +57,7 @@ pub fn setup_in(row: &[u64]) -> Setup
     }
 }
 
+// 1, 2 and 3 are the file's words for the three distributions, in these two functions and nowhere else.
 #[tactic(auto, unfolding(crate::specs::Rows::dim_words))]
 pub fn dim_row(d: DimensionInfo) -> [u64; 5]
     ensures { result ≡ dim_words d }

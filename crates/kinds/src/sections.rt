@@ -11,7 +11,6 @@ use crate::vectors::{put_candidate, put_member};
 use candidates::Candidate;
 use distribution::DimensionInfo;
 use evolution::Member;
-use state::sound::{candidate_count, parent_count};
 use state::{State, TrialProgress};
 
 #[tactic(auto, unfolding(crate::specs::Kinds::count_words))]
@@ -74,21 +73,15 @@ pub fn section_of(s: &State, kind: Kind) -> Section
     requires { Roomy s.now }
     ensures { result ≡ kind_words s.now (kind_number kind) }
 {
-    let dims = &s.dims[..s.n_dims];
-    let mut section = Section::new();
+    let dims = s.dims();
+    let mut section = Section::new(0);
     match kind {
         Kind::Setup => section.extend_from_slice(&setup_row(s.setup)),
         Kind::Counts => section.extend_from_slice(&count_row(s)),
         Kind::Dimensions => put_dims(&mut section, dims),
-        Kind::Trials => put_trials(&mut section, &s.trials[..s.n_trials]),
-        Kind::Parents => {
-            let parents = &s.parents[..parent_count(s.closed, s.n)];
-            put_parents(&mut section, parents, dims);
-        }
-        Kind::Candidates => {
-            let count = candidate_count(s.discovered, s.n, s.n_trials);
-            put_candidates(&mut section, &s.candidates[..count], dims);
-        }
+        Kind::Trials => put_trials(&mut section, s.trials()),
+        Kind::Parents => put_parents(&mut section, s.parents(), dims),
+        Kind::Candidates => put_candidates(&mut section, s.candidates(), dims),
     }
     section
 }

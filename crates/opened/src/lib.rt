@@ -6,12 +6,11 @@ ghost use Rattle.rng_util.specs.Many.{listed, pad_to};
 ghost use Rattle.kinds.specs.Opened.{row, state_of};
 
 use candidates::Candidate;
-use distribution::{CategoricalDistribution, DimensionInfo, Distribution};
+use distribution::DimensionInfo;
 use kinds::rows::{dim_in, setup_in, trial_in, word_option};
 use kinds::vectors::{candidate_in, member_in};
 use records::Table;
 use selection::blank_member;
-use state::sound::{candidate_count, parent_count};
 use state::{State, TrialProgress};
 
 // N items, the first `n` of them each from its row of `width` words; the others are blank.
@@ -42,44 +41,42 @@ pub fn state_in(tables: &[Table; 6]) -> State
 {
     let [us, ns, ds, ts, ps, cs] = tables;
     let ns = &ns.words;
-    let discovered = ns[2] == 1;
-    let n = ns[3] as usize;
     let n_dims = ns[4] as usize;
     let n_trials = ns[5] as usize;
-    let closed = (ns[6] % 4294967296) as u32;
-    let blank_dim = DimensionInfo {
-        distribution: Distribution::Categorical(CategoricalDistribution { n_choices: 0 }),
-    };
-    let blank_trial = TrialProgress {
-        number: 0,
-        next_dim: 0,
-    };
     let d = n_dims.min(16);
-    let n_parents = parent_count(closed, n).min(160);
-    let n_candidates = candidate_count(discovered, n, n_trials).min(224);
-    prove!(n_parents * (d + 1) <= 3600);
-    prove!(n_candidates * d <= 3600);
-    let dims: [DimensionInfo; 16] = read_rows(blank_dim, d, &ds.words, 5, dim_in);
-    let used = &dims[..d];
-    let trials = read_rows(blank_trial, n_trials.min(224), &ts.words, 2, trial_in);
-    let parent = |row: &[u64]| member_in(row, used);
-    let parents = read_rows(blank_member(), n_parents, &ps.words, d + 1, parent);
-    let candidate = |row: &[u64]| candidate_in(row, used);
-    let candidates = read_rows(Candidate::blank(), n_candidates, &cs.words, d, candidate);
-    State {
+    let dims = read_rows(DimensionInfo::blank(), d, &ds.words, 5, dim_in);
+    let trials = read_rows(
+        TrialProgress::blank(),
+        n_trials.min(224),
+        &ts.words,
+        2,
+        trial_in,
+    );
+    // Parents and candidates come after: their rows are as long as the dimensions say.
+    let mut state = State {
         setup: setup_in(&us.words),
         first: word_option(ns[0], ns[1]),
-        discovered,
-        n,
+        discovered: ns[2] == 1,
+        n: ns[3] as usize,
         n_dims,
         dims,
-        candidates,
-        parents,
+        candidates: [Candidate::blank(); 224],
+        parents: [blank_member(); 160],
         n_trials,
         trials,
         best: ns[8] as usize,
         word: ns[9],
-        closed,
+        closed: (ns[6] % 4294967296) as u32,
         idle: (ns[7] % 4294967296) as u32,
-    }
+    };
+    let n_parents = state.parent_count().min(160);
+    let n_candidates = state.candidate_count().min(224);
+    prove!(n_parents * (d + 1) <= 3600);
+    prove!(n_candidates * d <= 3600);
+    let used = &dims[..d];
+    let parent = |row: &[u64]| member_in(row, used);
+    state.parents = read_rows(blank_member(), n_parents, &ps.words, d + 1, parent);
+    let candidate = |row: &[u64]| candidate_in(row, used);
+    state.candidates = read_rows(Candidate::blank(), n_candidates, &cs.words, d, candidate);
+    state
 }
