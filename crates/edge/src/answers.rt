@@ -2,12 +2,10 @@
 ghost use Rattle.std.specs.Prelude.{◌≡◌};
 ghost use Rattle.distribution.specs.Refusals.{refusal_number};
 ghost use Rattle.de.specs.Answer.{plain_answer};
-ghost use Rattle.edge.specs.Answers.{bare_answer, setting_answer, settled_of, question_of};
+ghost use Rattle.edge.specs.Answers.{bare_answer, setting_answer, answered, question_of};
 
-use crate::flat::{DeDistribution, DeState, open, open_dims, open_distribution};
-use crate::known::{known_dims, known_distribution, known_state};
+use crate::flat::{DeDistribution, DeState, Opened, Unnamed};
 use distribution::{Distribution, ParamValue, Refusal};
-use state::State;
 
 #[repr(C)]
 #[derive(Clone, Copy)]
@@ -29,138 +27,103 @@ pub struct DeAnswer {
     pub draws: u64,
 }
 
-// What `sample` is asked, and whether the numbers of the call and of the state name cases.
-#[derive(Clone, Copy)]
-pub struct Question {
-    pub known_call: bool,
-    pub known_state: bool,
-    pub distribution: Distribution,
-    pub state: State,
-}
+impl DeAnswer {
+    // Every field is 0. A struct of C's is spelt out field by field once, here and in layout.
+    fn none() -> Self
+        ensures { result ≡ bare_answer 0 0 }
+    {
+        DeAnswer {
+            kind: 0,
+            refusal: 0,
+            real: 0.0,
+            whole: 0,
+            choice: 0,
+            draws: 0,
+        }
+    }
 
-// An answer, and whether the state after it is to be stored.
-#[derive(Clone, Copy)]
-pub struct Settled {
-    pub stores: bool,
-    pub answer: DeAnswer,
-}
+    // A state is made.
+    pub fn made() -> Self
+        ensures { result ≡ bare_answer 5 0 }
+    {
+        DeAnswer {
+            kind: 5,
+            ..DeAnswer::none()
+        }
+    }
 
-pub fn refusal_number(refusal: Refusal) -> u64
-    ensures { result ≡ refusal_number refusal }
-{
-    match refusal {
-        Refusal::StateNotSound => 0,
-        Refusal::MutationFactor => 1,
-        Refusal::CrossoverRate => 2,
-        Refusal::PopulationSize => 3,
-        Refusal::Bounds => 4,
-        Refusal::LogScale => 5,
-        Refusal::Step => 6,
-        Refusal::Choices => 7,
-        Refusal::HistoryNan => 8,
-        Refusal::Dimensions => 9,
-        Refusal::ExtraTrials => 10,
-        Refusal::EntryNan => 11,
+    // There is no such slot or dimension.
+    pub fn absent() -> Self
+        ensures { result ≡ bare_answer 6 0 }
+    {
+        DeAnswer {
+            kind: 6,
+            ..DeAnswer::none()
+        }
     }
 }
 
-pub fn bare_answer(kind: u64, refusal: u64) -> DeAnswer
-    ensures { result ≡ bare_answer kind refusal }
-{
-    DeAnswer {
-        kind,
-        refusal,
-        real: 0.0,
-        whole: 0,
-        choice: 0,
-        draws: 0,
+impl From<Unnamed> for DeAnswer {
+    ghost from_gives = { λ _ answer. answer ≡ bare_answer 4 0 };
+
+    fn from(_: Unnamed) -> Self {
+        DeAnswer {
+            kind: 4,
+            ..DeAnswer::none()
+        }
+    }
+}
+
+impl From<Refusal> for DeAnswer {
+    ghost from_gives = { λ why answer. answer ≡ bare_answer 0 (refusal_number why) };
+
+    fn from(why: Refusal) -> Self {
+        DeAnswer {
+            refusal: why.number(),
+            ..DeAnswer::none()
+        }
     }
 }
 
 pub fn setting_answer(setting: ParamValue, draws: u64) -> DeAnswer
     ensures { result ≡ setting_answer setting draws }
 {
+    let none = DeAnswer {
+        draws,
+        ..DeAnswer::none()
+    };
     match setting {
         ParamValue::Float(real) => DeAnswer {
             kind: 1,
-            refusal: 0,
             real,
-            whole: 0,
-            choice: 0,
-            draws,
+            ..none
         },
         ParamValue::Int(whole) => DeAnswer {
             kind: 2,
-            refusal: 0,
-            real: 0.0,
             whole,
-            choice: 0,
-            draws,
+            ..none
         },
         ParamValue::Categorical(choice) => DeAnswer {
             kind: 3,
-            refusal: 0,
-            real: 0.0,
-            whole: 0,
             choice,
-            draws,
+            ..none
         },
     }
 }
 
-pub fn open_call(s: DeState, call: DeCall) -> Question
-    ensures { result ≡ question_of s call }
+// What the sampler is asked. The call is judged before the state.
+#[tactic(auto, unfolding(crate::specs::Answers::question_of, crate::specs::Known::opened_in))]
+pub fn open_call(s: &DeState, call: DeCall) -> Result<(Opened, Distribution), DeAnswer>
+    ensures { result ≡ question_of s.now call }
 {
-    let d = call.distribution;
-    let flat_dims = s.dims;
-    let dims = open_dims(flat_dims);
-    let distribution = open_distribution(d);
-    let state = open(s, dims);
-    Question {
-        known_call: known_distribution(d),
-        known_state: known_state(s, known_dims(flat_dims)),
-        distribution,
-        state,
-    }
+    let distribution = Distribution::try_from(call.distribution)?;
+    let opened = Opened::try_from(s)?;
+    Ok((opened, distribution))
 }
 
-// The answer that goes out. Only a setting stores the state after it.
-pub fn settle(
-    known_call: bool,
-    known_state: bool,
-    answer: Result<ParamValue, Refusal>,
-    draws: u64,
-) -> Settled
-    ensures { result ≡ settled_of known_call known_state (plain_answer answer) draws }
+// The answer that goes out: `Ok` where the state after it is to be stored, which only a setting is.
+pub fn settle(answer: Result<ParamValue, Refusal>, draws: u64) -> Result<DeAnswer, DeAnswer>
+    ensures { result ≡ answered (plain_answer answer) draws }
 {
-    if !known_call {
-        let a = bare_answer(4, 0);
-        return Settled {
-            stores: false,
-            answer: a,
-        };
-    }
-    if !known_state {
-        let a = bare_answer(0, 0);
-        return Settled {
-            stores: false,
-            answer: a,
-        };
-    }
-    match answer {
-        Ok(x) => {
-            let a = setting_answer(x, draws);
-            Settled {
-                stores: true,
-                answer: a,
-            }
-        }
-        Err(r) => {
-            let a = bare_answer(0, refusal_number(r));
-            Settled {
-                stores: false,
-                answer: a,
-            }
-        }
-    }
+    Ok(setting_answer(answer?, draws))
 }

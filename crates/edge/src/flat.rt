@@ -1,11 +1,15 @@
 // The sampler's set-up, distributions and state in numbers: no enum can cross to C. What a number stands for is said at each
-// field; a number that names no case is judged by `known_..`, and what it opens to is never used.
-ghost use Rattle.std.specs.Prelude.{◌≡◌, map};
-ghost use Rattle.edge.specs.Flat.{strategy_of, size_of, setup_of, float_step_of, int_step_of, float_of, int_of, distribution_of, dim_of, first_of, open_with};
+// field; where one names no case, what it stands in opens to nothing.
+ghost use Rattle.std.specs.Prelude.{◌≡◌, map, eqb, leb};
+ghost use Rattle.distribution.specs.declared.Refusal.TheVariants.{StateNotSound};
+ghost use Rattle.ledger.specs.Words.{all};
+ghost use Rattle.edge.specs.Flat.{strategy_of, option_of, setup_of, distribution_of, dim_of, open_with};
+ghost use Rattle.edge.specs.Known.{named, known_setup, known_distribution, opened_in};
 
 use candidates::Candidate;
 use distribution::{
     CategoricalDistribution, DimensionInfo, Distribution, FloatDistribution, IntDistribution,
+    Refusal,
 };
 use evolution::{DEStrategy, Member, Setup};
 use state::{State, TrialProgress};
@@ -59,144 +63,152 @@ pub struct DeState {
     pub idle: u32,
 }
 
-pub fn open_strategy(strategy: u64) -> DEStrategy
-    ensures { result ≡ strategy_of strategy }
-{
-    if strategy == 0 {
-        return DEStrategy::Rand1;
-    }
-    if strategy == 1 {
-        return DEStrategy::Best1;
-    }
-    DEStrategy::CurrentToBest1
-}
+// A number that names no case.
+#[derive(Clone, Copy)]
+pub struct Unnamed;
 
-fn open_size(sized: u64, size: u64) -> Option<u64>
-    ensures { result ≡ size_of sized size }
-{
-    if sized == 0 {
-        return None;
-    }
-    Some(size)
-}
+// In a state it is refusal 0: a state with such a number is not sound.
+impl From<Unnamed> for Refusal {
+    ghost from_gives = { λ _ why. why ≡ StateNotSound };
 
-pub fn open_setup(s: DeSetup) -> Setup
-    ensures { result ≡ setup_of s }
-{
-    let strategy = open_strategy(s.strategy);
-    let population_size = open_size(s.sized, s.population_size);
-    Setup {
-        mutation_factor: s.mutation_factor,
-        crossover_rate: s.crossover_rate,
-        strategy,
-        population_size,
-        seed: s.seed,
+    fn from(_: Unnamed) -> Self {
+        Refusal::StateNotSound
     }
 }
 
-fn open_float_step(stepped: u64, step: f64) -> Option<f64>
-    ensures { result ≡ float_step_of stepped step }
+// 0 is no, 1 is yes.
+fn flag(number: u64) -> Result<bool, Unnamed>
+    ensures { result ≡ named (leb number 1) (eqb number 1) }
 {
-    if stepped == 0 {
-        return None;
-    }
-    Some(step)
-}
-
-fn open_int_step(stepped: u64, step: i64) -> Option<i64>
-    ensures { result ≡ int_step_of stepped step }
-{
-    if stepped == 0 {
-        return None;
-    }
-    Some(step)
-}
-
-fn open_float(d: DeDistribution) -> FloatDistribution
-    ensures { result ≡ float_of d }
-{
-    let step = open_float_step(d.stepped, d.step);
-    FloatDistribution {
-        low: d.low,
-        high: d.high,
-        log_scale: d.log_scale == 1,
-        step,
+    match number {
+        0 => Ok(false),
+        1 => Ok(true),
+        _ => Err(Unnamed),
     }
 }
 
-fn open_int(d: DeDistribution) -> IntDistribution
-    ensures { result ≡ int_of d }
+// A value that there is where the flag beside it is 1.
+fn option<T: Copy>(set: u64, value: T) -> Result<Option<T>, Unnamed>
+    ensures { result ≡ named (leb set 1) (option_of set value) }
 {
-    let step = open_int_step(d.stepped, d.whole_step);
-    IntDistribution {
-        low: d.whole_low,
-        high: d.whole_high,
-        log_scale: d.log_scale == 1,
-        step,
+    match set {
+        0 => Ok(None),
+        1 => Ok(Some(value)),
+        _ => Err(Unnamed),
     }
 }
 
-pub fn open_distribution(d: DeDistribution) -> Distribution
-    ensures { result ≡ distribution_of d }
+pub fn open_strategy(strategy: u64) -> Result<DEStrategy, Unnamed>
+    ensures { result ≡ named (leb strategy 2) (strategy_of strategy) }
 {
-    if d.kind == 1 {
-        return Distribution::Float(open_float(d));
+    match strategy {
+        0 => Ok(DEStrategy::Rand1),
+        1 => Ok(DEStrategy::Best1),
+        2 => Ok(DEStrategy::CurrentToBest1),
+        _ => Err(Unnamed),
     }
-    if d.kind == 2 {
-        return Distribution::Int(open_int(d));
-    }
-    Distribution::Categorical(CategoricalDistribution {
-        n_choices: d.n_choices,
-    })
 }
 
-fn open_dim(d: DeDistribution) -> DimensionInfo
-    ensures { result ≡ dim_of d }
-{
-    let distribution = open_distribution(d);
-    DimensionInfo { distribution }
+impl TryFrom<DeSetup> for Setup {
+    type Error = Unnamed;
+
+    ghost try_from_gives = { λ s opened. opened ≡ named (known_setup s) (setup_of s) };
+
+    #[tactic(auto, unfolding(crate::specs::Flat::setup_of, crate::specs::Known::known_setup))]
+    fn try_from(s: DeSetup) -> Result<Self, Unnamed> {
+        Ok(Setup {
+            mutation_factor: s.mutation_factor,
+            crossover_rate: s.crossover_rate,
+            strategy: open_strategy(s.strategy)?,
+            population_size: option(s.sized, s.population_size)?,
+            seed: s.seed,
+        })
+    }
 }
 
-pub fn open_dims(flat: [DeDistribution; 16]) -> [DimensionInfo; 16]
-    ensures { result ≡ map dim_of flat }
+// A choice has neither scale nor step.
+impl TryFrom<DeDistribution> for Distribution {
+    type Error = Unnamed;
+
+    ghost try_from_gives = { λ d opened. opened ≡ named (known_distribution d) (distribution_of d) };
+
+    #[tactic(auto, unfolding(crate::specs::Flat::distribution_of, crate::specs::Known::known_distribution))]
+    fn try_from(d: DeDistribution) -> Result<Self, Unnamed> {
+        match d.kind {
+            1 => Ok(Distribution::Float(FloatDistribution {
+                low: d.low,
+                high: d.high,
+                log_scale: flag(d.log_scale)?,
+                step: option(d.stepped, d.step)?,
+            })),
+            2 => Ok(Distribution::Int(IntDistribution {
+                low: d.whole_low,
+                high: d.whole_high,
+                log_scale: flag(d.log_scale)?,
+                step: option(d.stepped, d.whole_step)?,
+            })),
+            3 => Ok(Distribution::Categorical(CategoricalDistribution {
+                n_choices: d.n_choices,
+            })),
+            _ => Err(Unnamed),
+        }
+    }
+}
+
+fn open_dims(flat: &[DeDistribution; 16]) -> Result<[DimensionInfo; 16], Unnamed>
+    ensures { result ≡ named (all known_distribution flat.now) (map dim_of flat.now) }
 {
     let blank = DimensionInfo {
         distribution: Distribution::Categorical(CategoricalDistribution { n_choices: 0 }),
     };
     let mut dims = [blank; 16];
-    let mut i: usize = 0;
-    while i < 16 {
-        let f = flat[i];
-        dims[i] = open_dim(f);
-        i += 1;
+    for (i, d) in flat.iter().enumerate() {
+        dims[i] = DimensionInfo {
+            distribution: Distribution::try_from(*d)?,
+        };
     }
-    dims
+    Ok(dims)
 }
 
-fn open_first(named: u64, first: u64) -> Option<u64>
-    ensures { result ≡ first_of named first }
-{
-    if named == 0 {
-        return None;
-    }
-    Some(first)
+// What the numbers of a state stand for; the rest of it is the same on both sides.
+#[derive(Clone, Copy)]
+pub struct Opened {
+    pub setup: Setup,
+    pub first: Option<u64>,
+    pub discovered: bool,
+    pub dims: [DimensionInfo; 16],
 }
 
-// The state, its dimensions being opened already. Without their loop this is small enough to be compiled into its callers,
-// and then the arrays are copied once.
-pub fn open(s: DeState, dims: [DimensionInfo; 16]) -> State
-    ensures { result ≡ open_with s dims }
+impl TryFrom<&DeState> for Opened {
+    type Error = Refusal;
+
+    ghost try_from_gives = { λ s opened. opened ≡ opened_in s.now };
+
+    #[tactic(auto, unfolding(crate::specs::Known::known_with, crate::specs::Known::opened_in))]
+    fn try_from(s: &DeState) -> Result<Self, Refusal> {
+        Ok(Opened {
+            setup: Setup::try_from(s.setup)?,
+            first: option(s.named, s.first)?,
+            discovered: flag(s.discovered)?,
+            dims: open_dims(&s.dims)?,
+        })
+    }
+}
+
+// The state. What can fail is opened apart: so this is small enough to be compiled into its callers, and the arrays are copied once.
+// By a `try_from` of the whole state they were copied again at each `Result`, and a sample call took 60 KB of stack more.
+#[tactic(auto, unfolding(crate::specs::Flat::open_with))]
+pub fn open(s: &DeState, opened: Opened) -> State
+    ensures { result ≡ open_with s.now opened }
 {
-    let flat_setup = s.setup;
-    let setup = open_setup(flat_setup);
-    let first = open_first(s.named, s.first);
+    let dims = opened.dims;
     let candidates = s.candidates;
     let parents = s.parents;
     let trials = s.trials;
     State {
-        setup,
-        first,
-        discovered: s.discovered == 1,
+        setup: opened.setup,
+        first: opened.first,
+        discovered: opened.discovered,
         n: s.n,
         n_dims: s.n_dims,
         dims,

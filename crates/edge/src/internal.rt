@@ -1,12 +1,12 @@
 // `to_internal` in numbers.
 ghost use Rattle.std.specs.Prelude.{◌≡◌};
-ghost use Rattle.edge.specs.Internal.{setting_of, known_setting, flat_internal, internal_of};
+ghost use Rattle.distribution.specs.Refusals.{refusal_number};
+ghost use Rattle.edge.specs.Known.{named};
+ghost use Rattle.edge.specs.Internal.{setting_of, known_setting, unknown_internal, refused_internal, value_of, internal_of};
 
-use crate::answers::refusal_number;
-use crate::flat::{DeDistribution, open_distribution};
-use crate::known::known_distribution;
+use crate::flat::{DeDistribution, Unnamed};
 use common::to_internal;
-use distribution::{ParamValue, Refusal};
+use distribution::{Distribution, ParamValue, Refusal};
 
 // kind: 1 real, 2 whole, 3 choice.
 #[repr(C)]
@@ -27,52 +27,66 @@ pub struct DeInternal {
     pub value: f64,
 }
 
-fn known_setting(s: DeSetting) -> bool
-    ensures { result ≡ known_setting s }
-{
-    (1 <= s.kind) & (s.kind <= 3)
+impl TryFrom<DeSetting> for ParamValue {
+    type Error = Unnamed;
+
+    ghost try_from_gives = { λ s opened. opened ≡ named (known_setting s) (setting_of s) };
+
+    #[tactic(auto, unfolding(crate::specs::Internal::known_setting, crate::specs::Internal::setting_of))]
+    fn try_from(s: DeSetting) -> Result<Self, Unnamed> {
+        match s.kind {
+            1 => Ok(ParamValue::Float(s.real)),
+            2 => Ok(ParamValue::Int(s.whole)),
+            3 => Ok(ParamValue::Categorical(s.choice)),
+            _ => Err(Unnamed),
+        }
+    }
 }
 
-fn open_setting(s: DeSetting) -> ParamValue
-    ensures { result ≡ setting_of s }
-{
-    if s.kind == 1 {
-        return ParamValue::Float(s.real);
+impl From<Unnamed> for DeInternal {
+    ghost from_gives = { λ _ answer. answer ≡ unknown_internal };
+
+    fn from(_: Unnamed) -> Self {
+        DeInternal {
+            kind: 4,
+            refusal: 0,
+            value: 0.0,
+        }
     }
-    if s.kind == 2 {
-        return ParamValue::Int(s.whole);
-    }
-    ParamValue::Categorical(s.choice)
 }
 
-fn flat_internal(answer: Result<f64, Refusal>) -> DeInternal
-    ensures { result ≡ flat_internal answer }
+impl From<Refusal> for DeInternal {
+    ghost from_gives = { λ why answer. answer ≡ refused_internal why };
+
+    fn from(why: Refusal) -> Self {
+        DeInternal {
+            kind: 0,
+            refusal: why.number(),
+            value: 0.0,
+        }
+    }
+}
+
+#[tactic(auto, unfolding(crate::specs::Internal::value_of))]
+fn value_of(distribution: DeDistribution, setting: DeSetting) -> Result<f64, DeInternal>
+    ensures { result ≡ value_of distribution setting }
 {
-    match answer {
+    let d = Distribution::try_from(distribution)?;
+    let x = ParamValue::try_from(setting)?;
+    let value = to_internal(x, d)?;
+    Ok(value)
+}
+
+#[tactic(auto, unfolding(crate::specs::Internal::internal_of))]
+pub fn internal_of(distribution: DeDistribution, setting: DeSetting) -> DeInternal
+    ensures { result ≡ internal_of distribution setting }
+{
+    match value_of(distribution, setting) {
         Ok(value) => DeInternal {
             kind: 1,
             refusal: 0,
             value,
         },
-        Err(r) => DeInternal {
-            kind: 0,
-            refusal: refusal_number(r),
-            value: 0.0,
-        },
-    }
-}
-
-pub fn internal_of(distribution: DeDistribution, setting: DeSetting) -> DeInternal
-    ensures { result ≡ internal_of distribution setting }
-{
-    if known_distribution(distribution) & known_setting(setting) {
-        let value = open_setting(setting);
-        let d = open_distribution(distribution);
-        return flat_internal(to_internal(value, d));
-    }
-    DeInternal {
-        kind: 4,
-        refusal: 0,
-        value: 0.0,
+        Err(answer) => answer,
     }
 }

@@ -8,5 +8,4 @@ pub mod flat;
 pub mod flatten;
 pub mod held;
 pub mod internal;
-pub mod known;
 pub mod look;

@@ -1,10 +1,8 @@
 // The look call.
 ghost use Rattle.std.specs.Prelude.{◌≡◌};
-ghost use Rattle.edge.specs.Look.{head_of, looked, look_at};
+ghost use Rattle.edge.specs.Look.{looked, refused_look, look_at};
 
-use crate::answers::refusal_number;
-use crate::flat::{DeState, open, open_dims};
-use crate::known::{known_dims, known_state};
+use crate::flat::{DeState, Opened, open};
 use distribution::Refusal;
 use slots::{Looked, look};
 
@@ -21,72 +19,54 @@ pub struct DeLook {
     pub values: [f64; 160],
 }
 
-// The answer of a look, apart from the counts and values.
-#[derive(Clone, Copy)]
-pub struct Head {
-    pub kind: u64,
-    pub refusal: u64,
-    pub best: usize,
-}
+impl From<Refusal> for DeLook {
+    ghost from_gives = { λ why shown. shown ≡ refused_look why };
 
-fn head_of(answer: Result<Option<usize>, Refusal>) -> Head
-    ensures { result ≡ head_of answer }
-{
-    match answer {
-        Err(r) => Head {
+    fn from(why: Refusal) -> Self {
+        DeLook {
             kind: 0,
-            refusal: refusal_number(r),
+            refusal: why.number(),
             best: 0,
-        },
-        Ok(None) => Head {
-            kind: 1,
-            refusal: 0,
-            best: 0,
-        },
-        Ok(Some(best)) => Head {
-            kind: 2,
-            refusal: 0,
+            n: 0,
+            closed: 0,
+            idle: 0,
+            values: [0.0; 160],
+        }
+    }
+}
+
+impl From<Looked> for DeLook {
+    ghost from_gives = { λ seen shown. shown ≡ looked seen };
+
+    #[tactic(auto, unfolding(crate::specs::Look::looked))]
+    fn from(seen: Looked) -> Self {
+        let values = seen.values;
+        let (kind, refusal, best) = match seen.look {
+            Err(why) => (0, why.number(), 0),
+            Ok(None) => (1, 0, 0),
+            Ok(Some(best)) => (2, 0, best),
+        };
+        DeLook {
+            kind,
+            refusal,
             best,
-        },
+            n: seen.n,
+            closed: u64::from(seen.closed),
+            idle: u64::from(seen.idle),
+            values,
+        }
     }
 }
 
-fn flat_look(seen: Looked) -> DeLook
-    ensures { result ≡ looked seen }
+#[tactic(auto, unfolding(crate::specs::Known::opened_in, crate::specs::Known::opened_state, crate::specs::Look::look_at))]
+pub fn look_at(s: &DeState) -> DeLook
+    ensures { result ≡ look_at s.now }
 {
-    let answer = seen.look;
-    let head = head_of(answer);
-    let values = seen.values;
-    DeLook {
-        kind: head.kind,
-        refusal: head.refusal,
-        best: head.best,
-        n: seen.n,
-        closed: seen.closed as u64,
-        idle: seen.idle as u64,
-        values,
-    }
-}
-
-// A state with a number that names no case is not sound.
-pub fn look_at(s: DeState) -> DeLook
-    ensures { result ≡ look_at s }
-{
-    let flat_dims = s.dims;
-    if known_state(s, known_dims(flat_dims)) {
-        let dims = open_dims(flat_dims);
-        let state = open(s, dims);
-        let seen = look(&state);
-        return flat_look(seen);
-    }
-    let values = [0.0f64; 160];
-    DeLook {
-        kind: 0,
-        refusal: 0,
-        best: 0,
-        n: 0,
-        closed: 0,
-        idle: 0,
-        values,
+    match Opened::try_from(s) {
+        Ok(opened) => {
+            let state = open(s, opened);
+            DeLook::from(look(&state))
+        }
+        Err(why) => DeLook::from(why),
     }
 }

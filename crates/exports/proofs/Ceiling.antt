@@ -1,5 +1,6 @@
 -- THE DRAW CEILING OF THE LIBRARY (W1), for every memory and every call that a C caller can send: the sampler's own, since what is not known is answered without a draw and what the
 -- memory holds after a setting opens to the sampler's state.
+use Rattle.std.specs.Prelude.{is_ok}
 use Prim.Native.Nat.{ℕ, ◌≤◌}
 use native.Mathlib.Omega.{arith}
 use mathlib.Core.Path.{◌≡◌, refl, sym, ap, subst}
@@ -16,7 +17,7 @@ use Rattle.de.proofs.CallCeiling.{call-ceiling, never-more, ahead-ceiling}
 use Rattle.edge.specs.declared.flat.DeState.{DeState}
 use Rattle.edge.specs.Flat.{setup_of, distribution_of, flat_setup, open_with, open_of, flat_of}
 use Rattle.edge.specs.Known.{known_setup, known_distribution, known_with, known_state}
-use Rattle.edge.specs.Answers.{settled_of}
+use Rattle.edge.specs.Answers.{settled_of, told}
 use Rattle.exports.specs.Calls.{sampled_from, sample_answer, sample_state}
 use Rattle.exports.specs.Ceiling.{ceiling_at}
 use Rattle.exports.specs.Program.{Sent, answer_to, leaves}
@@ -32,7 +33,7 @@ module _ (f : DeState) (q : Sent) (P : ℕ → DeState → Type 0) (idle : (g : 
   unfolding sample_answer sample_state settled_of
   of-sampler h = go (known_distribution q.call.distribution) (known_state f) refl r.answer
     where
-      go : (c s : Bool) → known_state f ≡ s → (a : Plain.Answer de) → let o = settled_of c s a r.draws in P o.answer.draws (cond o.stores (flat_of r.state) f)
+      go : (c s : Bool) → known_state f ≡ s → (a : Plain.Answer de) → let o = settled_of c s a r.draws in P (told o).draws (cond (is_ok o) (flat_of r.state) f)
       go false s e a = idle f
       go true false e a = idle f
       go true true e (Plain.refused n) = idle f

@@ -31,8 +31,8 @@ use Rattle.edge.specs.declared.flat.DeState.{DeState}
 use Rattle.edge.specs.declared.answers.DeAnswer.{DeAnswer}
 use Rattle.edge.specs.Flat.{distribution_of, setup_of, open_of, flat_of}
 use Rattle.edge.specs.Known.{known_setup}
-use Rattle.edge.specs.Answers.{bare_answer, setting_answer, answered}
-use Rattle.exports.specs.Calls.{sample_answer, sample_state, new_state}
+use Rattle.edge.specs.Answers.{bare_answer, setting_answer, answered, told}
+use Rattle.exports.specs.Calls.{sample_answer, sample_state, made_state, new_state}
 use Rattle.edge.specs.Build.{built_answer, settled_setup, fresh_flat}
 use Rattle.exports.specs.Program.{Sent, is_known, meant, meant_by, read_answer, called, spelled, library, reads_from, LibraryDemand3}
 use Rattle.exports.proofs.Edge.{distribution-back, distribution-known, lossless, held_after, one_answer, one_state, same_answer, same_state, unknown-answer, unknown-state}
@@ -76,10 +76,10 @@ module _ (s : State) (c : Call de) where
   abbrev result : Returned de State
   result = sample_of s c.distribution.distribution c.number c.history
 
-  answer-is : sample_answer (flat_of s) (spelled c).call c.history ≡ (answered result.answer result.draws).answer
+  answer-is : sample_answer (flat_of s) (spelled c).call c.history ≡ told (answered result.answer result.draws)
   answer-is =
       one_answer s (spelled c).call c.history (distribution-known c.distribution.distribution)
-      ∙ ap (λ (r : Returned de State). (answered r.answer r.draws).answer) (ap (λ d. sample_of s d c.number c.history) (distribution-back c.distribution.distribution))
+      ∙ ap (λ (r : Returned de State). told (answered r.answer r.draws)) (ap (λ d. sample_of s d c.number c.history) (distribution-back c.distribution.distribution))
 
   state-is : sample_state (flat_of s) (spelled c).call c.history ≡ held_after result.answer s result.state
   state-is =
@@ -90,13 +90,13 @@ module _ (s : State) (c : Call de) where
 given_is : (s : State) (c : Call de) (x : ParamValue) → (result s c).answer ≡ Plain.given x
     → called (flat_of s) (spelled c) ≡ record { answer = Plain.given x; draws = (result s c).draws; state = flat_of (result s c).state }
 given_is s c x e =
-    let a : sample_answer (flat_of s) (spelled c).call c.history ≡ setting_answer x (result s c).draws = answer-is s c ∙ ap (λ (z : Plain.Answer de). (answered z (result s c).draws).answer) e in
+    let a : sample_answer (flat_of s) (spelled c).call c.history ≡ setting_answer x (result s c).draws = answer-is s c ∙ ap (λ (z : Plain.Answer de). told (answered z (result s c).draws)) e in
     let m : sample_state (flat_of s) (spelled c).call c.history ≡ flat_of (result s c).state = state-is s c ∙ ap (λ (z : Plain.Answer de). held_after z s (result s c).state) e in
     λ i. record { answer = (ap read_answer a ∙ setting-read x (result s c).draws) i; draws = (ap (λ (z : DeAnswer). z.draws) a ∙ setting-draws x (result s c).draws) i; state = m i }
 
 refused-is : (s : State) (c : Call de) (n : ℕ) → (result s c).answer ≡ Plain.refused n → called (flat_of s) (spelled c) ≡ record { answer = Plain.refused n; draws = 0; state = flat_of s }
 refused-is s c n e =
-    let a : sample_answer (flat_of s) (spelled c).call c.history ≡ bare_answer 0 n = answer-is s c ∙ ap (λ (z : Plain.Answer de). (answered z (result s c).draws).answer) e in
+    let a : sample_answer (flat_of s) (spelled c).call c.history ≡ bare_answer 0 n = answer-is s c ∙ ap (λ (z : Plain.Answer de). told (answered z (result s c).draws)) e in
     let m : sample_state (flat_of s) (spelled c).call c.history ≡ flat_of s = state-is s c ∙ ap (λ (z : Plain.Answer de). held_after z s (result s c).state) e in
     λ i. record { answer = ap read_answer a i; draws = ap (λ (z : DeAnswer). z.draws) a i; state = m i }
 
@@ -119,7 +119,7 @@ module _ (f : DeState) (u : DeSetup) (known : known_setup u ≡ true) (ok : is_o
   unfolding new_state settled_setup built_of fresh_flat
   new_is = rw known (go (setup_verdict S) ok)
     where
-      go : (v : Result ⊤ Refusal) → is_ok v ≡ true → cond (built_answer (built_by v S)).stores (flat_of (fresh_state S)) f ≡ flat_of (fresh_state S)
+      go : (v : Result ⊤ Refusal) → is_ok v ≡ true → made_state f (built_answer (built_by v S)) ≡ flat_of (fresh_state S)
       go (Ok tt) e = refl
       go (Err r) e = absurd (true≢false (sym e))
 

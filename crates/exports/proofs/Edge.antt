@@ -1,6 +1,6 @@
 -- Nothing is lost at the edge: a state that goes out as numbers is known and comes back as it was. So a call on a state that the library holds is the
 -- sampler's own call, and what is proved of the sampler holds of the library.
-use Rattle.std.specs.Prelude.{Option, Some, None, ℕ}
+use Rattle.std.specs.Prelude.{Option, Some, None, is_some, unwrap_or, Result, Err, is_ok}
 use mathlib.Core.Path.{◌≡◌, refl, ap, ◌∙◌}
 use mathlib.Core.Bool.{Bool, true, false, cond}
 use mathlib.Core.List.{List, [], ◌∷◌, map}
@@ -22,28 +22,25 @@ use Rattle.state.specs.declared.State.{State}
 use Rattle.state.proofs.Flags.{and-true}
 use Rattle.state.proofs.Laid.{back}
 use Rattle.de.specs.Sample.{sample_of}
+use Rattle.evolution.specs.Strategy.{strategy_number}
 use Rattle.edge.specs.declared.answers.DeCall.{DeCall}
 use Rattle.edge.specs.declared.flat.DeState.{DeState}
-use Rattle.edge.specs.Flat.{bit, strategy_of, flat_strategy, size_of, flat_sized, flat_size, setup_of, flat_setup, float_by, int_by, distribution_of, flat_distribution, dim_of, flat_dim, first_of, flat_named, flat_first, open_with, open_of, flat_of}
+use Rattle.edge.specs.Flat.{bit, strategy_of, option_of, setup_of, flat_setup, flat_float, flat_int, distribution_of, flat_distribution, dim_of, flat_dim, open_with, open_of, flat_of}
 use Rattle.edge.specs.Known.{known_setup, known_distribution, known_with, known_state}
-use Rattle.edge.specs.declared.answers.Settled.{Settled}
-use Rattle.edge.specs.Answers.{bare_answer, unknown, answered, settled_of}
+use Rattle.edge.specs.declared.answers.DeAnswer.{DeAnswer}
+use Rattle.edge.specs.Answers.{bare_answer, unknown, answered, settled_of, told}
 use Rattle.exports.specs.Calls.{sampled_from, settled_sample, sample_answer, sample_state}
 
 -- ---- the parts
 
-pub strategy-back : (t : DEStrategy) → strategy_of (flat_strategy t) ≡ t
+pub strategy-back : (t : DEStrategy) → strategy_of (strategy_number t) ≡ t
 strategy-back Rand1 = refl
 strategy-back Best1 = refl
 strategy-back CurrentToBest1 = refl
 
-size_back : (z : Option ℕ) → size_of (flat_sized z) (flat_size z) ≡ z
-size_back None = refl
-size_back (Some n) = refl
-
-first_back : (z : Option ℕ) → first_of (flat_named z) (flat_first z) ≡ z
-first_back None = refl
-first_back (Some n) = refl
+option-back : {A : Type 0} (z : Option A) (d : A) → option_of (bit (is_some z)) (unwrap_or z d) ≡ z
+option-back None d = refl
+option-back (Some x) d = refl
 
 pub setup-back : (S : Setup) → setup_of (flat_setup S) ≡ S
 unfolding setup_of flat_setup
@@ -52,19 +49,19 @@ setup-back S =
       mutation_factor = S.mutation_factor;
       crossover_rate = S.crossover_rate;
       strategy = strategy-back S.strategy i;
-      population_size = size_back S.population_size i;
+      population_size = option-back S.population_size 0 i;
       seed = S.seed;
     }
 
 float_back : (a b : Float) (l : Bool) (s : Option Float)
-    → distribution_of (float_by (record { low = a; high = b; log_scale = l; step = s }) s) ≡ D.Float (record { low = a; high = b; log_scale = l; step = s })
+    → distribution_of (flat_float (record { low = a; high = b; log_scale = l; step = s })) ≡ D.Float (record { low = a; high = b; log_scale = l; step = s })
 unfolding distribution_of
 float_back a b true None = refl
 float_back a b false None = refl
 float_back a b true (Some x) = refl
 float_back a b false (Some x) = refl
 
-int-back : (a b : ℤ) (l : Bool) (s : Option ℤ) → distribution_of (int_by (record { low = a; high = b; log_scale = l; step = s }) s) ≡ D.Int (record { low = a; high = b; log_scale = l; step = s })
+int-back : (a b : ℤ) (l : Bool) (s : Option ℤ) → distribution_of (flat_int (record { low = a; high = b; log_scale = l; step = s })) ≡ D.Int (record { low = a; high = b; log_scale = l; step = s })
 unfolding distribution_of
 int-back a b true None = refl
 int-back a b false None = refl
@@ -86,18 +83,10 @@ bit-back false = refl
 
 -- ---- the same numbers are known
 
-pub strategy-known : (t : DEStrategy) → leb (flat_strategy t) 2 ≡ true
+pub strategy-known : (t : DEStrategy) → leb (strategy_number t) 2 ≡ true
 strategy-known Rand1 = refl
 strategy-known Best1 = refl
 strategy-known CurrentToBest1 = refl
-
-size-known : (z : Option ℕ) → leb (flat_sized z) 1 ≡ true
-size-known None = refl
-size-known (Some n) = refl
-
-first-known : (z : Option ℕ) → leb (flat_named z) 1 ≡ true
-first-known None = refl
-first-known (Some n) = refl
 
 bit-known : (b : Bool) → leb (bit b) 1 ≡ true
 bit-known true = refl
@@ -105,16 +94,16 @@ bit-known false = refl
 
 pub setup-known : (S : Setup) → known_setup (flat_setup S) ≡ true
 unfolding known_setup flat_setup
-setup-known S = and-true (strategy-known S.strategy) (size-known S.population_size)
+setup-known S = and-true (strategy-known S.strategy) (bit-known (is_some S.population_size))
 
-float_known : (a b : Float) (l : Bool) (s : Option Float) → known_distribution (float_by (record { low = a; high = b; log_scale = l; step = s }) s) ≡ true
+float_known : (a b : Float) (l : Bool) (s : Option Float) → known_distribution (flat_float (record { low = a; high = b; log_scale = l; step = s })) ≡ true
 unfolding known_distribution
 float_known a b true None = refl
 float_known a b false None = refl
 float_known a b true (Some x) = refl
 float_known a b false (Some x) = refl
 
-int-known : (a b : ℤ) (l : Bool) (s : Option ℤ) → known_distribution (int_by (record { low = a; high = b; log_scale = l; step = s }) s) ≡ true
+int-known : (a b : ℤ) (l : Bool) (s : Option ℤ) → known_distribution (flat_int (record { low = a; high = b; log_scale = l; step = s })) ≡ true
 unfolding known_distribution
 int-known a b true None = refl
 int-known a b false None = refl
@@ -139,7 +128,7 @@ unfolding open_with flat_of
 lossless s =
     λ i. record {
       setup = setup-back s.setup i;
-      first = first_back s.first i;
+      first = option-back s.first 0 i;
       discovered = bit-back s.discovered i;
       n = s.n;
       n_dims = s.n_dims;
@@ -156,7 +145,7 @@ lossless s =
 
 pub flat-known : (s : State) → known_state (flat_of s) ≡ true
 unfolding known_with flat_of
-flat-known s = and-true (and-true (and-true (setup-known s.setup) (first-known s.first)) (bit-known s.discovered)) (dims-known s.dims)
+flat-known s = and-true (and-true (and-true (setup-known s.setup) (bit-known (is_some s.first))) (bit-known s.discovered)) (dims-known s.dims)
 
 -- ---- one call on a state that goes out as numbers: the sampler's own answer, and the memory holds the sampler's own state after a setting
 
@@ -169,15 +158,15 @@ module _ (s : State) (c : DeCall) (h : List CompletedTrial) (k : known_distribut
   abbrev after : State → Returned de State
   after t = sample_of t (distribution_of c.distribution) c.trial h
 
-  pub one_answer : sample_answer (flat_of s) c h ≡ (answered (after s).answer (after s).draws).answer
+  pub one_answer : sample_answer (flat_of s) c h ≡ told (answered (after s).answer (after s).draws)
   unfolding sample_answer settled_of
-  one_answer = λ i. (settled_of (k i) (flat-known s i) (after (lossless s i)).answer (after (lossless s i)).draws).answer
+  one_answer = λ i. told (settled_of (k i) (flat-known s i) (after (lossless s i)).answer (after (lossless s i)).draws)
 
   pub one_state : sample_state (flat_of s) c h ≡ held_after (after s).answer s (after s).state
   unfolding sample_state settled_of
-  one_state = (λ i. cond (settled_of (k i) (flat-known s i) (after (lossless s i)).answer (after (lossless s i)).draws).stores (flat_of (after (lossless s i)).state) (flat_of s)) ∙ go (after s).answer
+  one_state = (λ i. cond (is_ok (settled_of (k i) (flat-known s i) (after (lossless s i)).answer (after (lossless s i)).draws)) (flat_of (after (lossless s i)).state) (flat_of s)) ∙ go (after s).answer
     where
-      go : (a : Plain.Answer de) → cond (answered a (after s).draws).stores (flat_of (after s).state) (flat_of s) ≡ held_after a s (after s).state
+      go : (a : Plain.Answer de) → cond (is_ok (answered a (after s).draws)) (flat_of (after s).state) (flat_of s) ≡ held_after a s (after s).state
       go (Plain.given x) = refl
       go (Plain.refused n) = refl
 
@@ -191,21 +180,21 @@ module _ (f : DeState) (h : List CompletedTrial) where
 
     pub same_answer : sample_answer f c h ≡ sample_answer f c' h
     unfolding sample_answer
-    same_answer = ap (λ (z : Settled). z.answer) settled-alike
+    same_answer = ap told settled-alike
 
     pub same_state : sample_state f c h ≡ sample_state f c' h
     unfolding sample_state
-    same_state = λ i. cond (settled-alike i).stores (flat_of (sample_of (open_of f) (d i) (n i) h).state) f
+    same_state = λ i. cond (is_ok (settled-alike i)) (flat_of (sample_of (open_of f) (d i) (n i) h).state) f
 
   module _ (c : DeCall) (k : known_distribution c.distribution ≡ false) where
-    settled-unknown : settled_sample f c h ≡ unknown
+    settled-unknown : settled_sample f c h ≡ Err unknown
     unfolding settled_of
     settled-unknown = ap (λ (b : Bool). settled_of b (known_state f) (sampled_from f c h).answer (sampled_from f c h).draws) k
 
     pub unknown-answer : sample_answer f c h ≡ bare_answer 4 0
     unfolding sample_answer
-    unknown-answer = ap (λ (z : Settled). z.answer) settled-unknown
+    unknown-answer = ap told settled-unknown
 
     pub unknown-state : sample_state f c h ≡ f
     unfolding sample_state
-    unknown-state = ap (λ (z : Settled). cond z.stores (flat_of (sampled_from f c h).state) f) settled-unknown
+    unknown-state = ap (λ (z : Result DeAnswer DeAnswer). cond (is_ok z) (flat_of (sampled_from f c h).state) f) settled-unknown

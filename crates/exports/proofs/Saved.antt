@@ -1,6 +1,6 @@
 -- TUNING THAT SURVIVES A RESTART, OF THE LIBRARY (W2): a memory that was saved is restored to any other, and the calls after it are answered as before it. It is `survives` of the crate saved, since
 -- opening what was flattened gives the state back, and what a memory stands for alone decides what a call answers.
-use Rattle.std.specs.Prelude.{Result, Ok, Err, ⊤}
+use Rattle.std.specs.Prelude.{Result, Ok, Err, is_ok, ⊤}
 use Prim.Native.Nat.{ℕ}
 use native.Mathlib.Omega.{arith}
 use mathlib.Core.Path.{◌≡◌, refl, sym, ap, ◌∙◌}
@@ -9,28 +9,30 @@ use mathlib.Core.List.{List, [], ◌∷◌}
 use mir.Val.{Val}
 use denote.Laws.{Is}
 use lib.ListN.{length, take, drop}
+use Rattle.distribution.specs.declared.Refusal.TheVariants.{StateNotSound}
+use Rattle.state.specs.declared.State.{State}
 use Rattle.slots.specs.Held.{held_of}
 use Rattle.slots.specs.Look.{look_of}
 use Rattle.de.specs.Sample.{sample_of}
-use Rattle.saved.specs.Restore.{taken, restore_of}
+use Rattle.saved.specs.Restore.{taken, state_read, restore_of}
 use Rattle.saved.specs.Save.{save_of, saved_in}
 use Rattle.saved.specs.declared.FileRefusal.TheVariants.{BadContent}
 use Rattle.saved.specs.declared.Restored.{Restored}
 use Rattle.saved.proofs.Contracts.{past-untouched, refused-untouched}
 use Rattle.saved.proofs.Survives.{survives}
 use Rattle.edge.specs.contracts.flat.DeState as F
-use Rattle.edge.specs.Answers.{bare_answer, settled_of}
-use Rattle.files.specs.File.{refused_file, saved_answer, save_answer, save_file, settled_restore, nothing, read_of}
+use Rattle.edge.specs.Answers.{bare_answer, settled_of, told}
+use Rattle.files.specs.File.{refused_file, saved_answer, save_answer, save_file, restored_answer}
 use Rattle.edge.specs.Flat.{open_of, flat_of, distribution_of}
-use Rattle.edge.specs.Held.{held_at, held_answer}
-use Rattle.edge.specs.Known.{known_state, known_distribution}
-use Rattle.edge.specs.Look.{look_at, looked, not_sound}
-use Rattle.edge.specs.declared.answers.Settled.{Settled}
+use Rattle.edge.specs.Held.{held_at, held_by, held_answer}
+use Rattle.edge.specs.Known.{known_state, known_distribution, opened_state}
+use Rattle.edge.specs.Look.{look_at, look_by}
 use Rattle.files.specs.declared.file.DeFile.{DeFile}
 use Rattle.edge.specs.declared.flat.DeState.{DeState}
-use Rattle.exports.specs.Calls.{settled_sample, sample_answer, sample_state, restore_answer, restore_state}
+use Rattle.exports.specs.Calls.{settled_sample, sample_answer, sample_state, restore_answer, stored_over, restore_state}
 use Rattle.exports.specs.Program.{Sent, answer_to, leaves}
 use Rattle.exports.specs.Saved.{answers_from, Survives}
+use Rattle.exports.proofs.AnyState.{left, any-answer, any-state}
 use Rattle.exports.proofs.Edge.{lossless, flat-known}
 use Rattle.exports.proofs.Typed.{opened-typed}
 use Rattle.saved.specs.declared.FileRefusal.{FileRefusal}
@@ -47,11 +49,11 @@ module _ (f g : DeState) (a : Alike f g) (q : Sent) where
 
   alike-answer : answer_to f q ≡ answer_to g q
   unfolding sample_answer
-  alike-answer = ap (λ (z : Settled). z.answer) settled
+  alike-answer = ap told settled
 
   alike-after : Alike (leaves f q) (leaves g q)
   unfolding sample_state
-  alike-after = go (settled_sample f q.call q.history).stores (settled_sample g q.call q.history).stores (ap (λ (z : Settled). z.stores) settled)
+  alike-after = go (is_ok (settled_sample f q.call q.history)) (is_ok (settled_sample g q.call q.history)) (ap is_ok settled)
     where
       next : DeState → DeState
       next m = flat_of (sample_of (open_of m) (distribution_of q.call.distribution) q.call.trial q.history).state
@@ -71,13 +73,17 @@ alike-answers [] f g a = refl
 alike-answers (q ∷ qs) f g a = λ i. alike-answer f g a q i ∷ alike-answers qs (leaves f q) (leaves g q) (alike-after f g a q) i
 
 module _ (f g : DeState) (a : Alike f g) where
+  alike-opened : opened_state f ≡ opened_state g
+  unfolding opened_state
+  alike-opened = λ i. cond (a.known i) (Ok (a.opened i)) (Err StateNotSound)
+
   alike-look : look_at f ≡ look_at g
   unfolding look_at
-  alike-look = λ i. cond (a.known i) (looked (look_of (a.opened i))) not_sound
+  alike-look = λ i. look_by (alike-opened i)
 
   alike-held : (i k : ℕ) → held_at f i k ≡ held_at g i k
   unfolding held_at
-  alike-held i k = λ j. cond (a.known j) (held_answer (held_of (a.opened j) i k)) (bare_answer 0 0)
+  alike-held i k = λ j. held_answer (held_by (alike-opened j) i k)
 
   alike-saves : (lent : List ℕ) → (save_answer f (length lent) ≡ save_answer g (length lent)) × (save_file f lent ≡ save_file g lent)
   unfolding save_answer save_file
@@ -117,22 +123,21 @@ module _ (f g : DeState) (us : List Val) (typed : Is F.the_row f us) (file : Lis
   abbrev s : Saves f file n
   s = saves f file n e
 
-  read : read_of (take n (save_file f file)) ≡ taken (open_of f)
-  unfolding read_of
-  read = ap (λ (bytes : List ℕ). restore_of nothing (take n bytes)) (known-file f file s.known) ∙ survives (open_of f) nothing _ (opened-typed f us typed).1 file n s.written
+  read : restore_of (open_of f) (take n (save_file f file)) ≡ taken (open_of f)
+  read =
+      ap (λ (bytes : List ℕ). restore_of (open_of f) (take n bytes)) (known-file f file s.known)
+      ∙ survives (open_of f) (open_of f) _ (opened-typed f us typed).1 file n s.written
 
   held : restore_state g (take n (save_file f file)) ≡ flat_of (open_of f)
-  unfolding restore_state
-  held = ap (λ (r : Restored). cond (settled_restore r.answer).stores (flat_of r.state) g) read
+  held = any-state (open_of f) (take n (save_file f file)) g ∙ ap (left g) read
 
   alike : Alike (restore_state g (take n (save_file f file))) f
   alike = record { known = ap known_state held ∙ flat-known (open_of f) ∙ sym s.known; opened = ap open_of held ∙ lossless (open_of f) }
 
   pub library-survives : Survives f file n g
-  unfolding restore_answer
   library-survives =
       record {
-        answer = ap (λ (r : Restored). (settled_restore r.answer).answer) read;
+        answer = any-answer (open_of f) (take n (save_file f file)) ∙ ap (λ (r : Restored). restored_answer r.answer) read;
         holds = held;
         goes_on = λ qs. alike-answers qs _ f alike;
         looks = alike-look _ f alike;
@@ -143,11 +148,11 @@ module _ (f g : DeState) (us : List Val) (typed : Is F.the_row f us) (file : Lis
 
 restore-refuses : (g : DeState) (bytes : List ℕ) → (restore_answer bytes).kind ≡ 0 → restore_state g bytes ≡ g
 unfolding restore_answer restore_state
-restore-refuses g bytes e = go (read_of bytes).answer e
+restore-refuses g bytes e = go (state_read bytes) e
   where
-    go : (a : Result ⊤ FileRefusal) → (settled_restore a).answer.kind ≡ 0 → cond (settled_restore a).stores (flat_of (read_of bytes).state) g ≡ g
-    go (Ok tt) w = absurd (omega arith)
-    go (Err r) w = refl
+    go : (r : Result State FileRefusal) → (restored_answer r).kind ≡ 0 → stored_over g r ≡ g
+    go (Ok s) w = absurd (omega arith)
+    go (Err why) w = refl
 
 save-refuses : (f : DeState) (file : List ℕ) → (save_answer f (length file)).kind ≡ 0 → save_file f file ≡ file
 unfolding save_answer save_file

@@ -1,9 +1,8 @@
 -- "Tuning that survives a restart", of the library: what a save call and the restore call of its file do together, in the memory that callers hold.
-use Rattle.std.specs.Prelude.{ℕ, ◌≡◌, List, [], ◌∷◌, length, take, drop, Ok}
+use Rattle.std.specs.Prelude.{ℕ, ◌≡◌, List, [], ◌∷◌, length, take, drop}
 use Rattle.edge.specs.declared.answers.DeAnswer.{DeAnswer}
 use Rattle.edge.specs.declared.flat.DeState.{DeState}
-use Rattle.files.specs.declared.file.DeFile.{DeFile}
-use Rattle.files.specs.File.{settled_restore, save_answer, save_file}
+use Rattle.files.specs.File.{restored_file, save_answer, save_file}
 use Rattle.edge.specs.Flat.{open_of, flat_of}
 use Rattle.edge.specs.Held.{held_at}
 use Rattle.edge.specs.Look.{look_at}
@@ -14,10 +13,6 @@ use Rattle.exports.specs.Program.{Sent, answer_to, leaves}
 unfoldable pub answers_from : DeState → List Sent → List DeAnswer
 answers_from f [] = []
 answers_from f (q ∷ qs) = answer_to f q ∷ answers_from (leaves f q) qs
-
--- the answer of a restore call that stores a state
-abbrev pub restored_file : DeFile
-restored_file = (settled_restore (Ok tt)).answer
 
 -- f is saved to the lent file, in its first n bytes; these are restored to g
 pub record Survives (f : DeState) (file : List ℕ) (n : ℕ) (g : DeState) : Type 0 where

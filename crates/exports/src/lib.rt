@@ -4,7 +4,7 @@
 #![tactic(auto)]
 
 ghost use Rattle.std.specs.Prelude.{◌≡◌, length};
-ghost use Rattle.exports.specs.Calls.{new_answer, new_state, sample_answer, sample_state, restore_answer, restore_state};
+ghost use Rattle.exports.specs.Calls.{new_answer, new_state, settled_sample, sample_answer, sample_state, restore_answer, restore_state};
 ghost use Rattle.edge.specs.Look.{look_at};
 ghost use Rattle.edge.specs.Held.{held_at};
 ghost use Rattle.edge.specs.Internal.{internal_of};
@@ -17,54 +17,70 @@ use de::ceiling::draw_ceiling;
 use de::sample::sample;
 use edge::answers::{DeAnswer, DeCall, open_call, settle};
 use edge::build::{fresh, settle_setup};
-use edge::flat::{DeDistribution, DeSetup, DeState, open_strategy};
+use edge::flat::{DeDistribution, DeSetup, DeState, open, open_strategy};
 use edge::flatten::flatten;
 use edge::held::held_at;
 use edge::internal::{DeInternal, DeSetting, internal_of};
 use edge::look::{DeLook, look_at};
-use files::file::{DeFile, read_file, save_at, settle_restored};
+use files::file::{DeFile, refused_file, restored_file, save_at};
 use files::read::{DeRead, read_answer};
 use history::CompletedTrial;
 use layout::marks::{DeMarks, marked};
 use metrics::read_history;
+use saved::read;
 
 // A state from a set-up. What is lent is written only where the set-up is accepted, and never read.
+#[tactic(auto, unfolding(crate::specs::Calls::new_answer, crate::specs::Calls::new_state))]
 pub fn de_new(state: &mut DeState, setup: DeSetup) -> DeAnswer
     ensures { (result ≡ new_answer setup) × (state.new ≡ new_state state.old setup) }
 {
-    let o = settle_setup(setup);
-    if o.stores {
-        *state = fresh(setup);
+    match settle_setup(setup) {
+        Ok(setup) => {
+            *state = fresh(setup);
+            DeAnswer::made()
+        }
+        Err(answer) => answer,
     }
-    o.answer
+}
+
+// What a sample call answers: `Ok` with a setting, and only then is the lent state written.
+#[tactic(auto, unfolding(edge::specs::Answers::question_of, edge::specs::Answers::settled_of, crate::specs::Calls::sample_state))]
+fn sampled(
+    state: &mut DeState,
+    call: DeCall,
+    history: &[CompletedTrial],
+) -> Result<DeAnswer, DeAnswer>
+    ensures answer { result ≡ settled_sample state.old call history.now }
+    ensures after { state.new ≡ sample_state state.old call history.now }
+{
+    let (opened, distribution) = open_call(state, call)?;
+    let made = sample(open(state, opened), distribution, call.trial, history);
+    let answer = settle(made.answer, made.draws)?;
+    *state = flatten(made.state);
+    Ok(answer)
 }
 
 // A sample call. The lent state is written only where there is a setting.
+#[tactic(auto, unfolding(crate::specs::Calls::sample_answer))]
 pub fn de_sample(state: &mut DeState, call: DeCall, history: &[CompletedTrial]) -> DeAnswer
     ensures { (result ≡ sample_answer state.old call history.now) × (state.new ≡ sample_state state.old call history.now) }
 {
-    let q = open_call(*state, call);
-    let r = sample(q.state, q.distribution, call.trial, history);
-    let o = settle(q.known_call, q.known_state, r.answer, r.draws);
-    if o.stores {
-        *state = flatten(r.state);
+    match sampled(state, call, history) {
+        Ok(answer) | Err(answer) => answer,
     }
-    o.answer
 }
 
 pub fn de_look(state: &DeState) -> DeLook
     ensures { result ≡ look_at state.now }
 {
-    let s = *state;
-    look_at(s)
+    look_at(state)
 }
 
 // The setting that a slot holds in a dimension.
 pub fn de_slot_setting(state: &DeState, slot: u64, dimension: u64) -> DeAnswer
     ensures { result ≡ held_at state.now slot dimension }
 {
-    let s = *state;
-    held_at(s, slot, dimension)
+    held_at(state, slot, dimension)
 }
 
 pub fn de_to_internal(distribution: DeDistribution, setting: DeSetting) -> DeInternal
@@ -75,34 +91,35 @@ pub fn de_to_internal(distribution: DeDistribution, setting: DeSetting) -> DeInt
 
 // What a sample call draws at most that leaves n, n_dims and the set-up's strategy in the state. No state that is sound has
 // another strategy, and there it is 0.
+#[tactic(auto, unfolding(crate::specs::Ceiling::ceiling_at))]
 pub fn de_draw_ceiling(n: u64, n_dims: u64, strategy: u64) -> u64
     ensures { result ≡ ceiling_at n n_dims strategy }
 {
-    let unknown = strategy > 2;
-    if unknown {
-        return 0;
+    match open_strategy(strategy) {
+        Ok(strategy) => draw_ceiling(n, n_dims, strategy),
+        Err(_) => 0,
     }
-    draw_ceiling(n, n_dims, open_strategy(strategy))
 }
 
 // The state as a saved file (docs/SAVED.md). A refusal leaves the lent file as it was.
 pub fn de_save(state: &DeState, file: &mut [u8]) -> DeFile
     ensures { (result ≡ save_answer state.now (length file.old)) × (file.new ≡ save_file state.now file.old) }
 {
-    let s = *state;
-    save_at(s, file)
+    save_at(state, file)
 }
 
 // The state of a saved file. What is lent is written only where the file is taken, and never read.
+#[tactic(auto, unfolding(crate::specs::Calls::restore_answer, crate::specs::Calls::restore_state))]
 pub fn de_restore(state: &mut DeState, file: &[u8]) -> DeFile
     ensures { (result ≡ restore_answer file.now) × (state.new ≡ restore_state state.old file.now) }
 {
-    let r = read_file(file);
-    let o = settle_restored(r.answer);
-    if o.stores {
-        *state = flatten(r.state);
+    match read(file) {
+        Ok(kept) => {
+            *state = flatten(kept);
+            restored_file()
+        }
+        Err(why) => refused_file(why),
     }
-    o.answer
 }
 
 // The entries of a metrics export, into the lent history. A refusal leaves it as it was.

@@ -1,15 +1,11 @@
 -- The save call and the restore call in numbers.
-use Rattle.std.specs.Prelude.{ℕ, true, false, cond, List, Result, Ok, Err, ⊤}
-use Rattle.state.specs.declared.State.{State}
-use Rattle.de.specs.Build.{defaults, fresh_state}
+use Rattle.std.specs.Prelude.{ℕ, cond, List, Result, Ok, Err}
 use Rattle.saved.specs.Save.{save_of, saved_in}
-use Rattle.saved.specs.Restore.{file_refusal_number, restore_of}
+use Rattle.saved.specs.Restore.{file_refusal_number}
 use Rattle.saved.specs.declared.FileRefusal.{FileRefusal}
 use Rattle.saved.specs.declared.FileRefusal.TheVariants.{BadContent}
-use Rattle.saved.specs.declared.Restored.{Restored}
 use Rattle.edge.specs.declared.flat.DeState.{DeState}
 use Rattle.files.specs.declared.file.DeFile.{DeFile}
-use Rattle.files.specs.declared.file.SettledFile.{SettledFile}
 use Rattle.edge.specs.Flat.{open_of}
 use Rattle.edge.specs.Known.{known_state}
 
@@ -34,15 +30,11 @@ save_file f bytes = cond (known_state f) (saved_in (open_of f) bytes) bytes
 
 -- ---- the restore call
 
--- 2 restored; only a file that is taken stores a state
-abbrev pub settled_restore : Result ⊤ FileRefusal → SettledFile
-settled_restore (Ok tt) = record { stores = true; answer = record { kind = 2; refusal = 0; length = 0 } }
-settled_restore (Err r) = record { stores = false; answer = refused_file r }
+-- 2 restored
+abbrev pub restored_file : DeFile
+restored_file = record { kind = 2; refusal = 0; length = 0 }
 
--- a state that stands for nothing: whichever it is, what the restore call answers and leaves is the same (crates/exports/proofs/AnyState.antt)
-abbrev pub nothing : State
-nothing = fresh_state defaults.setup
-
--- what the file holds
-unfoldable pub read_of : List ℕ → Restored
-read_of bytes = restore_of nothing bytes
+-- what goes out, by what is read of the file
+abbrev pub restored_answer : {A : Type 0} → Result A FileRefusal → DeFile
+restored_answer (Ok s) = restored_file
+restored_answer (Err r) = refused_file r

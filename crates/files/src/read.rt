@@ -1,6 +1,5 @@
 // The read call (document 02, W3).
 ghost use Rattle.std.specs.Prelude.{◌≡◌};
-ghost use Rattle.metrics.specs.Export.{export_refusal_number};
 ghost use Rattle.files.specs.Read.{line_in, read_in};
 
 use metrics::ExportRefusal;
@@ -14,15 +13,6 @@ pub struct DeRead {
     pub refusal: u64,
     pub count: u64,
     pub line: u64,
-}
-
-fn export_number(why: ExportRefusal) -> u64
-    ensures { result ≡ export_refusal_number why }
-{
-    match why {
-        ExportRefusal::MalformedLine(_) => 14,
-        ExportRefusal::ShortHistory => 15,
-    }
 }
 
 fn line_of(why: ExportRefusal) -> u64
@@ -46,7 +36,7 @@ pub fn read_answer(answer: Result<usize, ExportRefusal>) -> DeRead
         },
         Err(why) => DeRead {
             kind: 0,
-            refusal: export_number(why),
+            refusal: why.number(),
             count: 0,
             line: line_of(why),
         },

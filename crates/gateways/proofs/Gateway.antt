@@ -20,7 +20,6 @@ use Rattle.de.specs.Build.{fresh_state}
 use Rattle.de.specs.Program.{ran}
 use Rattle.kinds.specs.Typed.{TypedSetup}
 use Rattle.saved.specs.File.{file_of}
-use Rattle.saved.specs.Restore.{taken}
 use Rattle.saved.specs.Save.{save_of, saved_in}
 use Rattle.saved.specs.declared.FileRefusal.TheVariants.{BadContent}
 use Rattle.saved.specs.declared.Restored.{Restored}
@@ -30,9 +29,10 @@ use Rattle.edge.specs.declared.flat.DeSetup.{DeSetup}
 use Rattle.edge.specs.declared.flat.DeState.{DeState}
 use Rattle.edge.specs.Flat.{distribution_of, setup_of, flat_of}
 use Rattle.edge.specs.Known.{known_setup}
-use Rattle.files.specs.File.{nothing, read_of, refused_file, save_answer, saved_answer, save_file, settled_restore}
+use Rattle.files.specs.File.{refused_file, restored_answer, restored_file, save_answer, saved_answer, save_file}
 use Rattle.exports.specs.Calls.{new_state, restore_answer, restore_state}
 use Rattle.exports.specs.Program.{Sent, answer_to, called, is_known, leaves, library, meant, meant_by, spelled}
+use Rattle.exports.proofs.AnyState.{any-answer, any-state, left}
 use Rattle.exports.proofs.Demand.{library-demand3, new_is}
 use Rattle.exports.proofs.Edge.{distribution-back, distribution-known, flat-known, held_after, lossless, one_state, same_state, unknown-state}
 use Rattle.restarts.specs.Gateway.{Room, TypedCall}
@@ -54,10 +54,11 @@ module _ (s : State) (v : Savable s) where
       (λ i. cond (eqb (answer i).kind 1) (Some (take (answer i).length (file i))) None) ∙ ap Some (bytes-written s lent n (saved-length lent room s v))
 
   read : (g : DeState) → restored_to g (file_of s) ≡ Some (flat_of s)
-  unfolding restore_answer restore_state read_of
   read g =
-      let r : read_of (file_of s) ≡ taken s = restored-save s v nothing in
-      ap (λ (z : Restored). cond (eqb (settled_restore z.answer).answer.kind 2) (Some (cond (settled_restore z.answer).stores (flat_of z.state) g)) None) r
+      let r = restored-save s v s in
+      let answer : restore_answer (file_of s) ≡ restored_file = any-answer s (file_of s) ∙ ap (λ (z : Restored). restored_answer z.answer) r in
+      let memory : restore_state g (file_of s) ≡ flat_of s = any-state s (file_of s) g ∙ ap (left g) r in
+      λ i. cond (eqb (answer i).kind 2) (Some (memory i)) None
 
 -- ---- what a call leaves is what the call that it stands for leaves
 

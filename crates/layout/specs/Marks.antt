@@ -107,16 +107,16 @@ no_marks =
       n_choices = 0;
     }
 
-unfoldable pub marked_dims : List DeDistribution
+abbrev pub marked_dims : List DeDistribution
 marked_dims = ends 16 no_marks 15 distribution_marks distribution_marks
 
-unfoldable pub marked_candidates : List Candidate
+abbrev pub marked_candidates : List Candidate
 marked_candidates = ends 224 blank_candidate 223 candidate_marks candidate_marks
 
-unfoldable pub marked_parents : List Member
+abbrev pub marked_parents : List Member
 marked_parents = ends 160 blank_member 159 member_marks member_marks
 
-unfoldable pub marked_trials : List TrialProgress
+abbrev pub marked_trials : List TrialProgress
 marked_trials = ends 224 blank_trial 223 progress_marks progress_marks
 
 unfoldable pub marked_state : DeState

@@ -2,8 +2,8 @@
 // fields from 1 on in the order of declaration: a number takes the next one, a double holds it as a double, an array of numbers takes
 // two, in its first and its last place. A field that is a struct holds that struct's own marks, an array of structs holds them in its
 // first and its last place; neither takes a number. So a field more in one struct renumbers nothing in another. The rest is 0.
-ghost use Rattle.std.specs.Prelude.{◌≡◌};
-ghost use Rattle.layout.specs.Marks.{marked_dims, marked_candidates, marked_parents, marked_trials, marked_state, marked_call, marks};
+ghost use Rattle.std.specs.Prelude.{◌≡◌, ◌-◌, ◌≤◌};
+ghost use Rattle.layout.specs.Marks.{no_marks, ends, marked_state, marked_call, marks};
 
 use crate::numbered::{
     answer_marks, candidate_marks, completed_marks, distribution_marks, file_marks, internal_marks,
@@ -14,7 +14,6 @@ use edge::answers::{DeAnswer, DeCall};
 use edge::flat::{DeDistribution, DeSetup, DeState};
 use edge::internal::{DeInternal, DeSetting};
 use edge::look::DeLook;
-use evolution::Member;
 use files::file::DeFile;
 use files::read::DeRead;
 use history::CompletedTrial;
@@ -48,10 +47,10 @@ pub struct DeMarks {
     pub after_read: u64,
 }
 
-fn marked_dims() -> [DeDistribution; 16]
-    ensures { result ≡ marked_dims }
+fn no_marks() -> DeDistribution
+    ensures { result ≡ no_marks }
 {
-    let blank = DeDistribution {
+    DeDistribution {
         kind: 0,
         low: 0.0,
         high: 0.0,
@@ -62,66 +61,36 @@ fn marked_dims() -> [DeDistribution; 16]
         step: 0.0,
         whole_step: 0,
         n_choices: 0,
-    };
-    let mut dims = [blank; 16];
-    dims[0] = distribution_marks();
-    dims[15] = distribution_marks();
-    dims
+    }
 }
 
-fn marked_candidates() -> [Candidate; 224]
-    ensures { result ≡ marked_candidates }
+// Blank items, but for the first and the last.
+fn at_ends<T: Copy, const N: usize>(blank: T, mark: T) -> [T; N]
+    requires { 1 ≤ N }
+    ensures { result ≡ ends N blank (N - 1) mark mark }
 {
-    let blank = Candidate::blank();
-    let mut candidates = [blank; 224];
-    candidates[0] = candidate_marks();
-    candidates[223] = candidate_marks();
-    candidates
+    let mut items = [blank; N];
+    items[0] = mark;
+    items[N - 1] = mark;
+    items
 }
 
-fn marked_parents() -> [Member; 160]
-    ensures { result ≡ marked_parents }
-{
-    let blank = blank_member();
-    let mut parents = [blank; 160];
-    parents[0] = member_marks();
-    parents[159] = member_marks();
-    parents
-}
-
-fn marked_trials() -> [TrialProgress; 224]
-    ensures { result ≡ marked_trials }
-{
-    let blank = TrialProgress {
-        number: 0,
-        next_dim: 0,
-    };
-    let mut trials = [blank; 224];
-    trials[0] = progress_marks();
-    trials[223] = progress_marks();
-    trials
-}
-
+#[tactic(auto, unfolding(crate::specs::Marks::marked_state))]
 fn marked_state() -> DeState
     ensures { result ≡ marked_state }
 {
-    let setup = setup_marks();
-    let dims = marked_dims();
-    let candidates = marked_candidates();
-    let parents = marked_parents();
-    let trials = marked_trials();
     DeState {
-        setup,
+        setup: setup_marks(),
         named: 1,
         first: 2,
         discovered: 3,
         n: 4,
         n_dims: 5,
-        dims,
-        candidates,
-        parents,
+        dims: at_ends(no_marks(), distribution_marks()),
+        candidates: at_ends(Candidate::blank(), candidate_marks()),
+        parents: at_ends(blank_member(), member_marks()),
         n_trials: 6,
-        trials,
+        trials: at_ends(TrialProgress::blank(), progress_marks()),
         best: 7,
         word: 8,
         closed: 9,
@@ -139,6 +108,7 @@ fn marked_call() -> DeCall
     }
 }
 
+#[tactic(auto, unfolding(crate::specs::Marks::marks))]
 pub fn marked() -> DeMarks
     ensures { result ≡ marks }
 {

@@ -13,6 +13,7 @@ use files::read::DeRead;
 use history::CompletedTrial;
 use state::TrialProgress;
 
+#[tactic(auto, using(crate::proofs::Reals::reals), unfolding(crate::specs::Marks::setup_marks))]
 pub fn setup_marks() -> DeSetup
     ensures { result ≡ setup_marks }
 {
@@ -26,6 +27,7 @@ pub fn setup_marks() -> DeSetup
     }
 }
 
+#[tactic(auto, using(crate::proofs::Reals::reals), unfolding(crate::specs::Marks::distribution_marks))]
 pub fn distribution_marks() -> DeDistribution
     ensures { result ≡ distribution_marks }
 {
@@ -43,6 +45,7 @@ pub fn distribution_marks() -> DeDistribution
     }
 }
 
+#[tactic(auto, using(crate::proofs::Reals::reals), unfolding(crate::specs::Marks::candidate_marks))]
 pub fn candidate_marks() -> Candidate
     ensures { result ≡ candidate_marks }
 {
@@ -55,6 +58,7 @@ pub fn candidate_marks() -> Candidate
     Candidate { x, choices }
 }
 
+#[tactic(auto, using(crate::proofs::Reals::reals), unfolding(crate::specs::Marks::member_marks))]
 pub fn member_marks() -> Member
     ensures { result ≡ member_marks }
 {
@@ -74,6 +78,7 @@ pub fn progress_marks() -> TrialProgress
     }
 }
 
+#[tactic(auto, using(crate::proofs::Reals::reals), unfolding(crate::specs::Marks::look_marks))]
 pub fn look_marks() -> DeLook
     ensures { result ≡ look_marks }
 {
@@ -91,6 +96,7 @@ pub fn look_marks() -> DeLook
     }
 }
 
+#[tactic(auto, using(crate::proofs::Reals::reals), unfolding(crate::specs::Marks::answer_marks))]
 pub fn answer_marks() -> DeAnswer
     ensures { result ≡ answer_marks }
 {
@@ -104,6 +110,7 @@ pub fn answer_marks() -> DeAnswer
     }
 }
 
+#[tactic(auto, using(crate::proofs::Reals::reals), unfolding(crate::specs::Marks::setting_marks))]
 pub fn setting_marks() -> DeSetting
     ensures { result ≡ setting_marks }
 {
@@ -115,6 +122,7 @@ pub fn setting_marks() -> DeSetting
     }
 }
 
+#[tactic(auto, using(crate::proofs::Reals::reals), unfolding(crate::specs::Marks::internal_marks))]
 pub fn internal_marks() -> DeInternal
     ensures { result ≡ internal_marks }
 {
@@ -125,6 +133,7 @@ pub fn internal_marks() -> DeInternal
     }
 }
 
+#[tactic(auto, using(crate::proofs::Reals::reals), unfolding(crate::specs::Marks::completed_marks))]
 pub fn completed_marks() -> CompletedTrial
     ensures { result ≡ completed_marks }
 {

@@ -3,9 +3,9 @@ use Rattle.de.specs.Build.{fresh_state}
 use Rattle.state.specs.View.{laid}
 use Rattle.ledger.specs.State.{fresh}
 use Rattle.edge.specs.Build.{fresh_flat}
-use Rattle.edge.specs.Flat.{setup_of, flat_distribution, flat_of}
+use Rattle.edge.specs.Flat.{flat_distribution, flat_of}
 use Rattle.edge.proofs.build.fresh.Goals as goal
 
 pub returns : goal.returns
-unfolding fresh_flat fresh_state laid fresh flat_of flat_distribution setup_of
-returns c = rw (c.flatten_setup-flat_setup.ensures, c.open_setup-s.ensures, c.flatten_choice-d.ensures, c.blank-c.ensures, c.blank_member-m.ensures)
+unfolding fresh_flat fresh_state laid fresh flat_of flat_distribution
+returns c = rw (c.from.ensures, c.from-2.ensures, c.blank.ensures, c.blank_member.ensures)

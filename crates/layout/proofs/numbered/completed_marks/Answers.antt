@@ -1,9 +1,0 @@
--- `completed_marks` meets its contract: it is the definition, its doubles computed.
-use mathlib.Core.Path.{refl}
-use lib.Ieee.{of_bits}
-use Rattle.layout.specs.Marks.{completed_marks}
-use Rattle.layout.proofs.numbered.completed_marks.Goals as goal
-
-pub returns : goal.returns
-unfolding completed_marks of_bits
-returns c = refl

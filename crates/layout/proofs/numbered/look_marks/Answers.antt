@@ -1,9 +1,0 @@
--- `look_marks` meets its contract: it is the definition, its doubles computed.
-use mathlib.Core.Path.{refl}
-use lib.Ieee.{of_bits}
-use Rattle.layout.specs.Marks.{look_marks}
-use Rattle.layout.proofs.numbered.look_marks.Goals as goal
-
-pub returns : goal.returns
-unfolding look_marks of_bits
-returns c = refl
