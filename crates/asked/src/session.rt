@@ -14,7 +14,7 @@ use evolution::Setup;
 use lines::Stop;
 use lines::kept::Kept;
 use lines::told::Told;
-use printed::rows::{Best, Rows, Setting, file_refusal_number};
+use printed::rows::{Best, Rows, Setting};
 use printed::sink::Sink;
 use printed::whole::Whole;
 use saved::{FileRefusal, read, save};
@@ -36,7 +36,7 @@ fn save_to(state: &State, file: &mut Kept) -> Result<usize, FileRefusal>
     ensures value { result ≡ save_of state.now 81920 }
     ensures after { file.new ≡ file_after (Some state.now) Save file.old }
 {
-    let length = save(state, &mut file.array)?;
+    let length = save(state, &mut file.items)?;
     file.length = length;
     Ok(length)
 }
@@ -108,7 +108,7 @@ impl<W: Write> Session<W> {
         let Some(state) = &mut self.state else {
             return Err(Stop::Malformed);
         };
-        let sampled = sample(*state, distribution, number, told.history.entries());
+        let sampled = sample(*state, distribution, number, told.history.as_slice());
         *state = sampled.state;
         self.answer(sampled.answer, sampled.draws)
     }
@@ -159,7 +159,7 @@ impl<W: Write> Session<W> {
                 writeln!(self.sink, "saved {length}")?;
                 Ok(())
             }
-            Err(why) => self.refused(file_refusal_number(why)),
+            Err(why) => self.refused(why.number()),
         }
     }
 
@@ -167,13 +167,13 @@ impl<W: Write> Session<W> {
     fn restore(&mut self, told: &Told) -> Result<(), Stop>
         ensures { Obeyed self.old told.now Restore self.new told.now result }
     {
-        match read(told.file.bytes()) {
+        match read(told.file.as_slice()) {
             Ok(state) => {
                 self.state = Some(state);
                 writeln!(self.sink, "restored")?;
                 Ok(())
             }
-            Err(why) => self.refused(file_refusal_number(why)),
+            Err(why) => self.refused(why.number()),
         }
     }
 
@@ -181,7 +181,7 @@ impl<W: Write> Session<W> {
     fn bytes(&mut self, told: &Told) -> Result<(), Stop>
         ensures { Obeyed self.old told.now Bytes self.new told.now result }
     {
-        let rows = Rows(told.file.bytes());
+        let rows = Rows(told.file.as_slice());
         write!(self.sink, "{rows}")?;
         Ok(())
     }

@@ -4,9 +4,11 @@ ghost use Rattle.script.specs.Commands.{command_of};
 ghost use Rattle.lines.specs.Hearing.{Hears};
 
 use crate::Stop;
-use crate::entries::History;
-use crate::kept::Kept;
+use crate::entries::{History, tell};
+use crate::kept::{Kept, make, put};
 use crate::reader::Reader;
+use filled::Filled;
+use history::CompletedTrial;
 use script::{Command, Question, parse};
 use std::io::Read;
 
@@ -21,9 +23,13 @@ impl Told {
         ensures history { result.history ≡ [] }
         ensures file { result.file ≡ [] }
     {
+        let none = CompletedTrial {
+            number: 0,
+            value: 0.0,
+        };
         Told {
-            history: History::new(),
-            file: Kept::new(),
+            history: Filled::new(none),
+            file: Filled::new(0),
         }
     }
 
@@ -34,9 +40,9 @@ impl Told {
         match parse(line).ok_or(Stop::Malformed)? {
             Command::Skip => {}
             Command::Clear => self.history.clear(),
-            Command::Tell { number, value } => self.history.tell(number, value)?,
-            Command::File(length) => self.file.make(length)?,
-            Command::Put(at) => self.file.put(line, at)?,
+            Command::Tell { number, value } => tell(&mut self.history, number, value)?,
+            Command::File(length) => make(&mut self.file, length)?,
+            Command::Put(at) => put(&mut self.file, line, at)?,
             Command::Ask(question) => return Ok(Some(question)),
         }
         Ok(None)

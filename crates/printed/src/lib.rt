@@ -1,4 +1,5 @@
-// The rows of the answers, written to standard output through one buffer. What is written is said by no contract.
+// The rows of the answers, written to standard output through one buffer.
+// Each row says what it displays, and the sink that what it holds has grown by that.
 #![tactic(auto)]
 
 pub mod rows;

@@ -2,28 +2,26 @@
 ghost use Rattle.std.specs.Prelude.{◌≡◌, OnOk};
 ghost use Rattle.std.specs.Io.KnownBytes.{Appends, Keeps};
 
+use filled::Filled;
 use std::fmt;
 use std::io::{self, Write};
 use std::marker::Model;
 
-// The first `waiting` bytes of the buffer are still to be written.
+// What waits is still to be written.
 #[derive(Drop)]
 pub struct Sink<W: Write> {
     to: W,
-    buffer: [u8; 8192],
-    waiting: usize,
+    waiting: Filled<u8, 8192>,
 }
 
 // A sink is seen as what was written to it, where its writer says what it holds.
 impl<W: Write> Model for Sink<W> {
-    ghost use Rattle.std.specs.Prelude.{ℕ, ◌≤◌, List, take, Option};
+    ghost use Rattle.std.specs.Prelude.{ℕ, List, Option};
     ghost use Rattle.std.specs.Io.KnownBytes.{append_known};
 
     ghost Value = { Option (List ℕ) };
 
-    ghost view = { λ s. append_known (W.contents s.to) (take s.waiting s.buffer) };
-
-    ghost invariant = { λ s. s.waiting ≤ 8192 };
+    ghost view = { λ s. append_known (W.contents s.to) s.waiting };
 }
 
 impl<W: Write> Sink<W> {
@@ -32,8 +30,7 @@ impl<W: Write> Sink<W> {
     {
         Sink {
             to,
-            buffer: [0; 8192],
-            waiting: 0,
+            waiting: Filled::new(0),
         }
     }
 
@@ -41,8 +38,8 @@ impl<W: Write> Sink<W> {
     pub fn flush(&mut self) -> io::Result<()>
         ensures { OnOk result (Keeps self.old self.new) }
     {
-        self.to.write_all(&self.buffer[..self.waiting])?;
-        self.waiting = 0;
+        self.to.write_all(self.waiting.as_slice())?;
+        self.waiting.clear();
         Ok(())
     }
 }
@@ -53,15 +50,13 @@ impl<W: Write> fmt::Write for Sink<W> {
     // Appends text, after a write of what waits where there is no room. No text is longer than the buffer.
     fn write_str(&mut self, text: &str) -> fmt::Result {
         let text = text.as_bytes();
-        if self.buffer.len() - self.waiting < text.len() {
+        if self.waiting.room() < text.len() {
             self.flush().map_err(|_| fmt::Error)?;
         }
-        let end = self.waiting + text.len();
-        if end > self.buffer.len() {
+        if self.waiting.room() < text.len() {
             return Err(fmt::Error);
         }
-        self.buffer[self.waiting..end].copy_from_slice(text);
-        self.waiting = end;
+        self.waiting.extend_from_slice(text);
         Ok(())
     }
 }

@@ -2,13 +2,13 @@
 ghost use Rattle.std.specs.Prelude.{Some, flat_map, take};
 ghost use Rattle.std.specs.Fmt.{WritesOnOk};
 ghost use Rattle.state.specs.View.{candidate_count, parent_count};
-ghost use Rattle.printed.specs.Whole.{dims_in, choices_text, vector_text, parent_text, candidate_text, trial_text, first_text, phase_text, head_text, state_text};
+ghost use Rattle.printed.specs.Whole.{dims_in, choices_text, vector_text, parent_text, candidate_text, trial_text};
+ghost use Rattle.printed.specs.Whole.{first_text, phase_text, head_text, state_text};
 
 use crate::rows::{Bits, Digits, first, put_values};
 use candidates::Candidate;
 use distribution::{DimensionInfo, is_continuous};
 use state::State;
-use state::sound::{candidate_count, parent_count};
 use std::fmt::{self, Formatter, Write};
 
 // The choices in dimension order.
@@ -28,6 +28,7 @@ fn put_choices<W: Write>(
 }
 
 // The entries, of which each continuous dimension has one, then the choices.
+// Counted as the definition counts: candidates' `continuous_place` is of one dimension, and would be asked for one behind the last.
 #[tactic(auto, unfolding(crate::specs::Whole::vector_text))]
 fn put_vector<W: Write>(
     f: &mut Formatter<W>,
@@ -45,10 +46,11 @@ fn put_vector<W: Write>(
 }
 
 fn put_parents<W: Write>(f: &mut Formatter<W>, state: &State) -> fmt::Result
-    ensures { WritesOnOk W.write_str_gives f.old result (flat_map (parent_text (dims_in state.now)) (take (parent_count state.now) state.now.parents)) f.new }
+    ensures { let parents = take (parent_count state.now) state.now.parents in
+        WritesOnOk W.write_str_gives f.old result (flat_map (parent_text (dims_in state.now)) parents) f.new }
 {
-    let dims = first(&state.dims, state.n_dims);
-    for parent in first(&state.parents, parent_count(state.closed, state.n)) {
+    let dims = state.dims();
+    for parent in state.parents() {
         let value = Bits(parent.value);
         write!(f, "parent {value}")?;
         put_vector(f, dims, &parent.candidate)?;
@@ -58,11 +60,11 @@ fn put_parents<W: Write>(f: &mut Formatter<W>, state: &State) -> fmt::Result
 }
 
 fn put_candidates<W: Write>(f: &mut Formatter<W>, state: &State) -> fmt::Result
-    ensures { WritesOnOk W.write_str_gives f.old result (flat_map (candidate_text (dims_in state.now)) (take (candidate_count state.now) state.now.candidates)) f.new }
+    ensures { let candidates = take (candidate_count state.now) state.now.candidates in
+        WritesOnOk W.write_str_gives f.old result (flat_map (candidate_text (dims_in state.now)) candidates) f.new }
 {
-    let dims = first(&state.dims, state.n_dims);
-    let count = candidate_count(state.discovered, state.n, state.n_trials);
-    for candidate in first(&state.candidates, count) {
+    let dims = state.dims();
+    for candidate in state.candidates() {
         write!(f, "candidate")?;
         put_vector(f, dims, candidate)?;
         writeln!(f)?;
@@ -73,7 +75,7 @@ fn put_candidates<W: Write>(f: &mut Formatter<W>, state: &State) -> fmt::Result
 fn put_trials<W: Write>(f: &mut Formatter<W>, state: &State) -> fmt::Result
     ensures { WritesOnOk W.write_str_gives f.old result (flat_map trial_text (take state.now.n_trials state.now.trials)) f.new }
 {
-    for trial in first(&state.trials, state.n_trials) {
+    for trial in state.trials() {
         let number = trial.number;
         let next = trial.next_dim;
         writeln!(f, "trial {number} {next}")?;

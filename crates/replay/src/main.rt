@@ -29,14 +29,14 @@ fn main(rt: HostRuntime) {
     let mut from = Reader::new(rt.stdin());
     let mut told = Told::new();
     let mut session = Session::new(rt.stdout());
-    let mut ended = run(&mut from, &mut told, &mut session);
-    if let Err(Stop::Malformed) = ended {
-        ended = session.malformed(from.line);
-    }
-    if let Err(Stop::Unread) = ended {
-        let _ = errors.write_all(b"replay: standard input cannot be read\n");
-        ended = Ok(());
-    }
+    let ended = match run(&mut from, &mut told, &mut session) {
+        Err(Stop::Malformed) => session.malformed(from.line),
+        Err(Stop::Unread) => {
+            let _ = errors.write_all(b"replay: standard input cannot be read\n");
+            Ok(())
+        }
+        ended => ended,
+    };
     if ended.is_err() || session.sink.flush().is_err() {
         let _ = errors.write_all(b"replay: standard output cannot be written\n");
     }

@@ -1,6 +1,7 @@
 // What a line says.
 ghost use Rattle.std.specs.Prelude.{◌≡◌, map};
-ghost use Rattle.script.specs.Commands.{new_line, bare_line, tell_line, file_line, put_line, pair_line, sample_float, sample_int, range_line, choice_line, line_of, command_of};
+ghost use Rattle.script.specs.Commands.{new_line, bare_line, tell_line, file_line, put_line, pair_line};
+ghost use Rattle.script.specs.Commands.{sample_float, sample_int, range_line, choice_line, line_of, command_of};
 
 use crate::fields::{optional, scale, strategy};
 use crate::hex::is_hex;
@@ -113,7 +114,8 @@ fn pair(key: &[u8], a: &[u8], b: &[u8]) -> Option<Command>
     }
 }
 
-// `sample TRIAL float LOW HIGH SCALE STEP`, its two keywords seen.
+// `sample TRIAL float LOW HIGH SCALE STEP`, its two keywords seen. One function for this and the next, with the words' reader as
+// a closure, would be no plainer: it would hand back the four values, and each caller would put them into its own struct.
 #[tactic(auto, unfolding(crate::specs::Commands::sample_float))]
 fn sample_float(trial: &[u8], low: &[u8], high: &[u8], log: &[u8], step: &[u8]) -> Option<Command>
     ensures { result ≡ sample_float trial.now low.now high.now log.now step.now }
