@@ -9,6 +9,7 @@ use std::io::Read;
 pub fn read_input<R: Read>(from: &mut R, text: &mut [u8]) -> io::Result<Option<usize>>
     ensures { IfOk result (λ size. IfSome size (λ n. n < length text.new)) }
 {
+    // No index is counted: a place grows by what each read brought.
     let mut at: usize = 0;
     while at < text.len() {
         let n = from.read(&mut text[at..])?;

@@ -18,8 +18,9 @@ mod rows;
 
 // A `tell` line for each entry, written in blocks.
 fn write_tells<W: Write>(to: &mut W, numbers: &[u64], values: &[f64]) -> io::Result<()> {
-    let mut block = [0u8; rows::BLOCK];
-    for (numbers, values) in numbers.chunks(rows::ROWS).zip(values.chunks(rows::ROWS)) {
+    let mut block = [0u8; 8192];
+    let rows = rows::room(&block);
+    for (numbers, values) in numbers.chunks(rows).zip(values.chunks(rows)) {
         let n = rows::fill(&mut block, numbers, values);
         to.write_all(&block[..n])?;
     }

@@ -1,14 +1,17 @@
 // The rows that are written, each put at a place of a lent block.
-ghost use Rattle.std.specs.Prelude.{◌+◌, ◌*◌, ◌≤◌, ◌≡◌, ◌++◌, length, take};
+// `writeln!` through printed's `Sink` would be plainer, but `printed` stands on the whole sampler, and this program on none of it.
+ghost use Rattle.std.specs.Prelude.{◌+◌, ◌/◌, ◌≤◌, ◌≡◌, ◌++◌, length, take};
 ghost use Rattle.io.specs.Counts.{IsPrefixLen};
-ghost use Rattle.tells.specs.Text.{whole_text, pattern_text, tell_text, refused_text, tell_texts};
+ghost use Rattle.tells.specs.Text.{whole_text, pattern_text, tell_text, carried, refused_text, tell_texts};
 
 use metrics::ExportRefusal;
 
 // The rows of so many entries have a place in a block, since the longest has 43 bytes.
-pub const BLOCK: usize = 8192;
-
-pub const ROWS: usize = BLOCK / 43;
+pub fn room(block: &[u8]) -> usize
+    ensures { result ≡ length block.now / 43 }
+{
+    block.len() / 43
+}
 
 // Puts text at `at`, and returns where it ends.
 fn put(block: &mut [u8], at: usize, text: &[u8]) -> usize
@@ -24,6 +27,7 @@ fn put(block: &mut [u8], at: usize, text: &[u8]) -> usize
 fn put_whole(block: &mut [u8], at: usize, n: u64) -> usize
     requires { at + 20 ≤ length block.old }
     ensures few { result ≤ at + 20 }
+    ensures end { result ≡ at + length (whole_text n) }
     ensures text { take result block.new ≡ take at block.old ++ whole_text n }
 {
     let mut text = [0u8; 20];
@@ -55,32 +59,43 @@ pub fn tell_row(block: &mut [u8], at: usize, number: u64, value: f64) -> usize
     put(block, d, b"\n")
 }
 
-// `refused 14 LINE` or `refused 15`, and a line feed, 32 bytes at most.
+// A space and the malformed line, where the refusal carries one, 21 bytes at most.
+fn put_carried(row: &mut [u8], at: usize, why: ExportRefusal) -> usize
+    requires { at + 21 ≤ length row.old }
+    ensures few { result ≤ at + 21 }
+    ensures text { take result row.new ≡ take at row.old ++ carried why }
+{
+    match why {
+        ExportRefusal::MalformedLine(line) => {
+            let a = put(row, at, b" ");
+            put_whole(row, a, line as u64)
+        }
+        ExportRefusal::ShortHistory => at,
+    }
+}
+
+// `refused NUMBER` with what the refusal carries, and a line feed, 32 bytes at most.
 #[tactic(auto, using(crate::proofs::Joined::refused))]
 pub fn refused_row(row: &mut [u8], why: ExportRefusal) -> usize
     requires { 32 ≤ length row.old }
     ensures few { IsPrefixLen result row.new }
     ensures text { take result row.new ≡ refused_text why }
 {
-    match why {
-        ExportRefusal::MalformedLine(line) => {
-            let a = put(row, 0, b"refused 14 ");
-            let b = put_whole(row, a, line as u64);
-            put(row, b, b"\n")
-        }
-        ExportRefusal::ShortHistory => put(row, 0, b"refused 15\n"),
-    }
+    let a = put(row, 0, b"refused ");
+    let b = put_whole(row, a, why.number());
+    let c = put_carried(row, b, why);
+    put(row, c, b"\n")
 }
 
-// The rows of entries, one behind the other, and how many bytes they are.
+// The rows of the first entries, as many as have a place, one behind the other; and how many bytes they are.
 #[tactic(auto, using(crate::proofs::Joined::behind))]
 pub fn fill(block: &mut [u8], numbers: &[u64], values: &[f64]) -> usize
-    requires { 43 * length numbers.now ≤ length block.old }
     ensures few { IsPrefixLen result block.new }
-    ensures text { take result block.new ≡ tell_texts numbers.now values.now }
+    ensures text { take result block.new ≡ tell_texts (take (length block.old / 43) numbers.now) values.now }
 {
+    let first = &numbers[..room(block).min(numbers.len())];
     let mut length: usize = 0;
-    for (number, value) in numbers.iter().zip(values) {
+    for (number, value) in first.iter().zip(values) {
         length = tell_row(block, length, *number, *value);
     }
     length

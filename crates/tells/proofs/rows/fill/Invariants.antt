@@ -1,5 +1,5 @@
--- The rows of the entries that are left, behind those in the block, make the rows of all. Each takes 43 bytes at most.
-use Rattle.std.proofs.Common.{◌≡◌, ◌+◌, ◌*◌, ◌≤◌, ◌++◌, length, take}
+-- The rows of the entries that are left, behind those in the block, make the rows of all that have a place. Each takes 43 bytes at most.
+use Rattle.std.proofs.Common.{◌≡◌, ◌+◌, ◌*◌, ◌/◌, ◌≤◌, ◌++◌, length, take}
 use Rattle.std.specs.Iterator.Adapters.{zip_first, zip_second}
 use Rattle.std.specs.Slice.Iter.{iter_rest}
 use Rattle.tells.specs.Text.{tell_texts}
@@ -9,4 +9,5 @@ abbrev pub invariant-loop-number : goal.invariant-loop-number
 invariant-loop-number l =
     let numbers = iter_rest (zip_first l.number-iterator) in
     let values = iter_rest (zip_second l.number-iterator) in
-    (l.length + 43 * length numbers ≤ 43 * length l.numbers) × (take l.length l.block ++ tell_texts numbers values ≡ tell_texts l.numbers l.values)
+    (l.length + 43 * length numbers ≤ length l.block)
+    × (take l.length l.block ++ tell_texts numbers values ≡ tell_texts (take (length l.block / 43) l.numbers) l.values)

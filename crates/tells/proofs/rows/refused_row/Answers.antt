@@ -1,8 +1,8 @@
 -- Each text stands behind those before it.
-use Rattle.std.proofs.Common.{◌∙◌}
-use Rattle.tells.proofs.Joined.{refused-14}
+use Rattle.std.proofs.Common.{◌∙◌, rules}
+use Rattle.tells.proofs.Joined.{refused-is}
 use Rattle.tells.proofs.rows.refused_row.Goals as goal
 
-pub returns-in-MalformedLine-clause-text : goal.returns-in-MalformedLine-clause-text
-returns-in-MalformedLine-clause-text c =
-    c.put.ensures.text ∙ rw (c.put_whole-b.ensures.text, c.put-a.ensures.text, c.in-MalformedLine.is) (refused-14 c.in-MalformedLine.line)
+pub returns-clause-text : goal.returns-clause-text
+returns-clause-text c =
+    c.put.ensures.text ∙ rw (c.put_carried-c.ensures.text, c.put_whole-b.ensures.text, c.put-a.ensures.text) (refused-is c.args.why _ (search rules))
