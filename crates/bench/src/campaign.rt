@@ -1,4 +1,5 @@
 // The states that are measured: every slot's trial open, none of them told.
+// The program `vectors` has a `call`, `trials` and `discover` of its own: no crate stands on a program.
 use de::build::{DESamplerBuilder, new_state};
 use de::sample::sample_slices;
 use distribution::{Distribution, FloatDistribution};
@@ -16,9 +17,7 @@ pub fn unit_interval() -> Distribution {
 
 // One call of a trial, with an empty history.
 pub fn call(state: State, trial: u64) -> State {
-    let numbers = [0u64; 1];
-    let values = [0.0f64; 1];
-    sample_slices(state, unit_interval(), trial, &numbers[..0], &values[..0]).state
+    sample_slices(state, unit_interval(), trial, &[], &[]).state
 }
 
 // k calls of trial 1.

@@ -15,7 +15,7 @@ pub struct Campaign {
     pub ns: u64,
 }
 
-// A result for each place, drawn.
+// A result for each place, drawn. The word is threaded by hand: `Gen::draw` counts, and asks for a count under 2^63, which in a loop takes a proof file.
 fn results(word: u64) -> [f64; 224] {
     let mut values = [0.0f64; 224];
     let mut w = word;

@@ -16,10 +16,7 @@ use std::rt::Env;
 // Whether the first argument is `run`.
 fn asked(rt: &impl Env) -> bool {
     let mut word = [0u8; 4];
-    let Ok(n) = rt.arg(1, &mut word) else {
-        return false;
-    };
-    n == 3 && word[0] == b'r' && word[1] == b'u' && word[2] == b'n'
+    matches!(rt.arg(1, &mut word), Ok(3)) && word.starts_with(b"run")
 }
 
 fn main(rt: HostRuntime) -> io::Result<()> {

@@ -11,6 +11,7 @@ pub struct Summed {
 }
 
 // A thousand doubles from 0 to 1000, drawn: such as decoding by a step rounds.
+// The word is threaded by hand: `Gen::draw` counts, and asks for a count under 2^63, which in a loop takes a proof file.
 fn doubles(seed: u64) -> [f64; 1000] {
     let mut xs = [0.0f64; 1000];
     let mut w = seed;

@@ -22,7 +22,7 @@ pub fn scan(rt: &impl Clock, state: State) -> io::Result<Timed> {
     let numbers = [0u64; 100000];
     let values = [1.0f64; 100000];
     let long = best_told(rt, state, &numbers, &values)?;
-    let short = best_told(rt, state, &numbers[..0], &values[..0])?;
+    let short = best_told(rt, state, &[], &[])?;
     Ok(Timed {
         ns: long.ns.saturating_sub(short.ns),
         word: long.word,

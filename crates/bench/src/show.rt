@@ -21,13 +21,11 @@ pub fn ratio(rt: &impl Print, name: &str, size: &str, v: u64, w: u64) -> io::Res
 
 // A hundred times v / w, and 0 where there is none or v is no time that was measured.
 pub fn hundredfold(v: u64, w: u64) -> u64 {
-    if w == 0 {
-        return 0;
+    if w == 0 || v > 100000000000000000 {
+        0
+    } else {
+        v * 100 / w
     }
-    if v > 100000000000000000 {
-        return 0;
-    }
-    v * 100 / w
 }
 
 // Says so where work did not leave what it should. What is asked after, the compiler cannot leave out.

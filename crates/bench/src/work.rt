@@ -1,6 +1,4 @@
 // What is timed in batches: plain copies of the state, and calls that neither close nor end discovery.
-ghost use Rattle.std.specs.Prelude.{◌≤◌};
-
 use crate::clock::{now, since};
 use state::State;
 use std::io;
@@ -14,21 +12,15 @@ pub struct Timed {
     pub n_trials: usize,
 }
 
-// 0 or 1, by a drawn output.
-fn side(output: u64) -> usize
-    ensures { result ≤ 1 }
-{
-    if output % 2 == 0 { 0 } else { 1 }
-}
-
 // Which of two places is written is drawn, so the compiler cannot tell that both hold the same.
+// The word is threaded by hand: `Gen::draw` counts, and asks for a count under 2^63, which in a loop takes a proof file.
 pub fn copies(state: State, turns: u64) -> State {
     let mut pair = [state; 2];
     let mut word = state.word;
     for _ in 0..turns {
         let drawn = rng_util::next(word);
         word = drawn.word;
-        let to = side(drawn.output);
+        let to = (drawn.output % 2) as usize;
         pair[to] = pair[1 - to];
     }
     pair[0]

@@ -1,19 +1,13 @@
 // Calls of the sampler with an empty history.
+use crate::answers::refused;
+use crate::given::unit_interval;
+use crate::show::figure;
 use de::Sampled;
 use de::build::{DESamplerBuilder, new_state};
 use de::sample::sample_slices;
-use distribution::{Distribution, FloatDistribution};
+use distribution::Distribution;
 use state::State;
-
-// Float 0..1.
-pub fn unit_interval() -> Distribution {
-    Distribution::Float(FloatDistribution {
-        low: 0.0,
-        high: 1.0,
-        log_scale: false,
-        step: None,
-    })
-}
+use std::io;
 
 // The state that an accepted set-up with this size returns.
 pub fn fresh(size: u64) -> State {
@@ -22,16 +16,12 @@ pub fn fresh(size: u64) -> State {
 }
 
 pub fn call(state: State, d: Distribution, trial: u64) -> Sampled {
-    let numbers = [0u64; 1];
-    let values = [0.0f64; 1];
-    sample_slices(state, d, trial, &numbers[0..0], &values[0..0])
+    sample_slices(state, d, trial, &[], &[])
 }
 
 // One call of a trial.
 pub fn one_more(state: State, trial: u64) -> State {
-    let s = call(state, unit_interval(), trial);
-    let after = s.state;
-    after
+    call(state, unit_interval(), trial).state
 }
 
 // Discovery of one dimension by trial 1, ended by trial 2.
@@ -42,11 +32,17 @@ pub fn discovered(size: u64) -> State {
 
 // A call each of the trials from..end.
 pub fn trials(state: State, from: u64, end: u64) -> State {
-    let mut s = state;
-    let mut trial = from;
-    while trial < end {
-        s = one_more(s, trial);
-        trial += 1;
-    }
-    s
+    (from..end).fold(state, one_more)
+}
+
+// The figure of a call that is refused with this number.
+pub fn refusal(
+    rt: &impl Print,
+    name: &str,
+    state: State,
+    d: Distribution,
+    trial: u64,
+    n: u64,
+) -> io::Result<()> {
+    figure(rt, name, refused(state, call(state, d, trial), n))
 }

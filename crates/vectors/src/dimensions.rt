@@ -1,39 +1,33 @@
 // Discovery: the 16th dimension passes, the 17th doesn't.
-use crate::answers::{has_setting, refused};
-use crate::calls::{call, one_more, unit_interval};
+use crate::calls::{call, one_more, refusal};
+use crate::given::unit_interval;
 use crate::show::figure;
 use de::build::{DESamplerBuilder, new_state};
 use state::State;
 use std::io;
 
 // k calls of trial 1.
-fn discover(state: State, k: usize) -> State {
-    let mut s = state;
-    let mut i: usize = 0;
-    while i < k {
-        s = one_more(s, 1);
-        i += 1;
-    }
-    s
+fn discover(state: State, k: u64) -> State {
+    (0..k).fold(state, |s, _| one_more(s, 1))
 }
 
 fn sixteenth(rt: &impl Print, fifteen: State) -> io::Result<()> {
     let s = call(fifteen, unit_interval(), 1);
-    let answer = s.answer;
-    let after = s.state;
     figure(
         rt,
         "the 16th dimension passes",
-        has_setting(answer) && s.draws == 1 && after.n_dims == 16,
+        s.answer.is_ok() && s.draws == 1 && s.state.n_dims == 16,
     )
 }
 
 fn seventeenth(rt: &impl Print, sixteen: State) -> io::Result<()> {
-    let s = call(sixteen, unit_interval(), 1);
-    figure(
+    refusal(
         rt,
         "the 17th dimension is 9, and changes nothing",
-        refused(sixteen, s, 9),
+        sixteen,
+        unit_interval(),
+        1,
+        9,
     )
 }
 

@@ -7,6 +7,7 @@ mod calls;
 mod closings;
 mod dimensions;
 mod extras;
+mod given;
 mod leaves;
 mod show;
 mod sizes;

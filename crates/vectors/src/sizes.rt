@@ -1,5 +1,5 @@
 // The user's size: 160 passes, 161 doesn't; below 4 it is raised to 4.
-use crate::answers::{build_refused, built};
+use crate::answers::is_refused;
 use crate::calls::discovered;
 use crate::show::figure;
 use de::build::DESamplerBuilder;
@@ -12,13 +12,12 @@ fn with_size(size: u64) -> Result<Setup, Refusal> {
 }
 
 fn n_of(size: u64) -> usize {
-    let s = discovered(size);
-    s.n
+    discovered(size).n
 }
 
 pub fn sizes(rt: &impl Print) -> io::Result<()> {
-    figure(rt, "size 160 passes", built(with_size(160)))?;
-    figure(rt, "size 161 is 3", build_refused(with_size(161), 3))?;
+    figure(rt, "size 160 passes", with_size(160).is_ok())?;
+    figure(rt, "size 161 is 3", is_refused(with_size(161), 3))?;
     figure(rt, "size 0 is N = 4", n_of(0) == 4)?;
     figure(rt, "size 3 is N = 4", n_of(3) == 4)?;
     figure(rt, "size 4 is N = 4", n_of(4) == 4)?;

@@ -1,9 +1,0 @@
--- `discover` is safe and ends: the calls that are left get fewer. Assumes nothing.
-use Prim.Native.Nat.{◌-◌}
-use Rattle.vectors.proofs.dimensions.discover.Given as goal
-
-abbrev pub invariant-loop-i : goal.invariant-loop-i
-invariant-loop-i l = Unit {0}
-
-abbrev pub decreases-loop-i : goal.decreases-loop-i
-decreases-loop-i l = l.k - l.i
