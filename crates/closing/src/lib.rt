@@ -32,11 +32,11 @@ fn all_found(values: &[Option<f64>]) -> bool
 
 // Whether a generation closes: at least n trials are assigned, and the history has the first n.
 #[tactic(auto, unfolding(crate::specs::Raw::closes_now))]
-pub fn closes_now(discovered: bool, n: usize, n_trials: usize, values: &[Option<f64>; 160]) -> bool
-    requires { n ≤ 160 }
-    ensures { result ≡ closes_now discovered n n_trials values.now }
+pub fn closes_now(state: &State, values: &[Option<f64>]) -> bool
+    requires { state.now.n ≤ length values.now }
+    ensures { result ≡ closes_now state.now.discovered state.now.n state.now.n_trials values.now }
 {
-    discovered && n <= n_trials && all_found(&values[..n])
+    state.discovered && state.n <= state.n_trials && all_found(&values[..state.n])
 }
 
 // Idle generations: closed since the least value of all slots last became smaller, 0 up to and at the first closing. Both
@@ -119,14 +119,10 @@ pub fn close(state: &mut State, results: &[f64]) -> Result<Gen, Refusal>
     if candidates::any_bad(&candidates[..n]) {
         return Err(Refusal::EntryNan);
     }
-    let blank = TrialProgress {
-        number: 0,
-        next_dim: 0,
-    };
     state.candidates = candidates;
     state.parents = parents;
     state.n_trials = 0;
-    state.trials = [blank; 224];
+    state.trials = [TrialProgress::blank(); 224];
     state.best = best;
     state.closed = closed;
     state.idle = idle;

@@ -33,8 +33,8 @@ use Rattle.assignment.specs.Raw.{given_ok, Ready, Complete, raw_active, raw_disc
 use Rattle.assignment.specs.Laid.{laid_accepted}
 use Rattle.assignment.proofs.Meet.{judged-valid}
 use Rattle.closing.specs.Raw.{Closable, raw_close}
-use Rattle.de.specs.Gathered.{sampling_on, discovery_on, refusal_on, accept_on, accepted_on, refusal, row_if}
-use Rattle.de.specs.Whole.{Acceptable}
+use Rattle.de.specs.Gathered.{sampling_on, discovery_on, refusal_on, accept_on, accepted_on, counted_in, refusal}
+use Rattle.de.specs.Whole.{Counted, Acceptable}
 use Rattle.de.proofs.Whole as Whole
 
 -- none of two
@@ -50,7 +50,7 @@ some-not : {A : Type 0} {o : Option A} → IsSome o → o ≡ None → ⊥
 some-not h e = cc (h, e)
 
 -- s is the state that comes in
-module _ (s : State) (d : Distribution) (n : ℕ) (closes : Bool) (rs : List Float) (q : Acceptable s d n closes rs) where
+module _ (s : State) (d : Distribution) (n : ℕ) (results : Option (List Float)) (q : Acceptable s d n results) where
   -- the generator then
   abbrev g : Gen
   g = start_of s
@@ -63,7 +63,7 @@ module _ (s : State) (d : Distribution) (n : ℕ) (closes : Bool) (rs : List Flo
 
   -- what the definition makes of the call
   abbrev accepted : Option (Accepted de)
-  accepted = accepted_on s d n closes rs
+  accepted = accepted_on s d n results
 
   sound : Sound de S m
   sound = Tidy.view-sound s q.sound de-laws
@@ -81,7 +81,7 @@ module _ (s : State) (d : Distribution) (n : ℕ) (closes : Bool) (rs : List Flo
   unfolding view
   start_is = refl
 
-  refusals : (judged d ≡ None) × (refusal_on m.size m n (row_if closes (take s.n rs)) ≡ None)
+  refusals : (judged d ≡ None) × (refusal_on m.size m n (counted_in s results) ≡ None)
   unfolding refusal
   refusals =
       let a = neither (or_else (judged d) (refuse_if false 8)) _ q.unrefused in
@@ -122,26 +122,29 @@ module _ (s : State) (d : Distribution) (n : ℕ) (closes : Bool) (rs : List Flo
     runs row = ap (λ (z : Option ℕ). accept_on S z m n d row) sized
 
     -- a generation closes
-    module _ (yes : closes ≡ true) where
+    module _ (rs : List Float) (yes : results ≡ Some rs) where
+      counts : Counted s rs
+      counts = q.closing rs yes
+
       pub many : s.n ≤ length rs
-      many = omega (arith, q.places, few.slots)
+      many = omega (arith, counts.places, few.slots)
 
       abbrev row : List Float
       row = take s.n rs
 
       -- with the counted results
       runs-row : accepted ≡ sampling_on S m n d (Some row) (Plain.start_gen de m)
-      runs-row = ap (λ (b : Bool). accept_on S m.size m n d (row_if b row)) yes ∙ runs (Some row)
+      runs-row = ap (λ (o : Option (List Float)). accept_on S m.size m n d (counted_in s o)) yes ∙ runs (Some row)
 
       pub close-requires : Closable s
-      close-requires = subst Closable (sym is) (Whole.closable de-laws S m ok sound d good n s.n sized rs many (q.numbers yes))
+      close-requires = subst Closable (sym is) (Whole.closable de-laws S m ok sound d good n s.n sized rs many counts.numbers)
 
       made-laid : raw_close s rs g ≡ raw_close (laid S m) rs (code_gen (Plain.start_gen de m))
       made-laid = λ i. raw_close (is i) rs (start_is i)
 
       pub closed-opened : (t : State) (h : Gen) → Ok (made t h) ≡ raw_close s rs g → Opened t h
       closed-opened t h e =
-          let by = Whole.closed_opened de-laws S m ok sound d good n s.n sized rs many (q.numbers yes) t h (e ∙ made-laid) in
+          let by = Whole.closed_opened de-laws S m ok sound d good n s.n sized rs many counts.numbers t h (e ∙ made-laid) in
           record {
             ready = by.0;
             serves = by.1 ∙ ap (laid_accepted S) (sym runs-row);
@@ -149,13 +152,13 @@ module _ (s : State) (d : Distribution) (n : ℕ) (closes : Bool) (rs : List Flo
           }
 
       pub closed-missing : (r : Refusal) → Err r ≡ raw_close s rs g → Err r ≡ laid_accepted S accepted
-      closed-missing r e = Whole.not-closed de-laws S m ok sound d good n s.n sized rs many (q.numbers yes) r (e ∙ made-laid) ∙ ap (laid_accepted S) (sym runs-row)
+      closed-missing r e = Whole.not-closed de-laws S m ok sound d good n s.n sized rs many counts.numbers r (e ∙ made-laid) ∙ ap (laid_accepted S) (sym runs-row)
 
     -- none closes
-    module _ (no : closes ≡ false) where
+    module _ (no : results ≡ None) where
       room : (not (has (Plain.numbers m.trials) n) && leb (s.n + 64) (length m.trials)) ≡ false
       unfolding refusal_on
-      room = not-refused _ 10 (sym (ap (λ (z : Option ℕ). refusal_on z m n None) sized) ∙ ap (λ (b : Bool). refusal_on m.size m n (row_if b (take s.n rs))) (sym no) ∙ refusals.1)
+      room = not-refused _ 10 (sym (ap (λ (z : Option ℕ). refusal_on z m n None) sized) ∙ ap (λ (o : Option (List Float)). refusal_on m.size m n (counted_in s o)) (sym no) ∙ refusals.1)
 
       pub plain-opened : Opened s g
       plain-opened =
@@ -164,7 +167,7 @@ module _ (s : State) (d : Distribution) (n : ℕ) (closes : Bool) (rs : List Flo
             serves =
                 (λ i. raw_active (is i) d n (start_is i))
                 ∙ Whole.plain-is de-laws S m ok sound d good n s.n sized room
-                ∙ ap (laid_accepted S) (sym (ap (λ (b : Bool). accept_on S m.size m n d (row_if b (take s.n rs))) no ∙ runs None));
+                ∙ ap (laid_accepted S) (sym (ap (λ (o : Option (List Float)). accept_on S m.size m n d (counted_in s o)) no ∙ runs None));
             unmoved = λ z. refl;
           }
 
@@ -188,7 +191,7 @@ module _ (s : State) (d : Distribution) (n : ℕ) (closes : Bool) (rs : List Flo
       unfolding refusal_on
       few_dims =
           leb-false 16 (length m.dims)
-          (rw (sym first-is ∙ yes) at (not-refused (discovers m.first n && leb 16 (length m.dims)) 9 (sym (ap (λ (z : Option ℕ). refusal_on z m n (row_if closes (take s.n rs))) unsized) ∙ refusals.1)))
+          (rw (sym first-is ∙ yes) at (not-refused (discovers m.first n && leb 16 (length m.dims)) 9 (sym (ap (λ (z : Option ℕ). refusal_on z m n (counted_in s results)) unsized) ∙ refusals.1)))
 
       pub discovery-requires : (s.n_dims < 16) × (verdict_of d ≡ Ok tt)
       unfolding laid

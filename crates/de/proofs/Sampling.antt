@@ -1,8 +1,8 @@
 -- The whole call by its tests: which refusal is given, and that what is returned is the definition's, laid out.
-use Rattle.std.specs.Prelude.{Option, Some, None, Result, Ok, Err, OnErr, ⊤, is_none, unwrap_or}
+use Rattle.std.specs.Prelude.{Option, Some, None, Result, Ok, Err, OnErr, ⊤, is_none, is_some, unwrap_or}
 use Rattle.std.specs.Result.{result_and}
 use Prim.Native.Nat.{ℕ, suc, ◌+◌}
-use mathlib.Core.Path.{◌≡◌, refl, sym, ap, ◌∙◌}
+use mathlib.Core.Path.{◌≡◌, refl, sym, ap, subst, ◌∙◌}
 use mathlib.Core.Bool.{Bool, true, false, not, ◌&&◌, cond, true≢false}
 use mathlib.Core.List.{List, [], ◌∷◌}
 use native.Mathlib.Omega.{arith}
@@ -38,8 +38,8 @@ use Rattle.common.specs.Bounds.{zero_f}
 use Rattle.de.specs.Answer.{numbered, sampled}
 use Rattle.de.specs.Refusing.{count_refusal, first_refusal}
 use Rattle.de.specs.Sample.{laid_result}
-use Rattle.de.specs.Gathered.{refusal_on, accept_on, accepted_on, refusal, step_on, sampled_on, row_if, row_in, results_in}
-use Rattle.de.specs.Whole.{Acceptable, Handed}
+use Rattle.de.specs.Gathered.{refusal_on, accept_on, accepted_on, counted_in, closing_results, refusal, step_on, sampled_on, row_if, row_in, results_in}
+use Rattle.de.specs.Whole.{Counted, Acceptable, Handed}
 
 -- ---- numbers of refusals
 
@@ -55,6 +55,19 @@ first-number (Ok tt) false w = refl
 no_row : (b : Bool) (xs : List Float) → is_none (row_if b xs) ≡ not b
 no_row true xs = refl
 no_row false xs = refl
+
+some_row : (b : Bool) (xs : List Float) → is_some (row_if b xs) ≡ b
+some_row true xs = refl
+some_row false xs = refl
+
+counted_row : (s : State) (b : Bool) (xs : List Float) → counted_in s (row_if b xs) ≡ row_if b (take s.n xs)
+counted_row s true xs = refl
+counted_row s false xs = refl
+
+-- what is there is the row
+row_there : (b : Bool) (xs ys : List Float) → row_if b xs ≡ Some ys → (b ≡ true) × (xs ≡ ys)
+row_there true xs ys e = (refl, cc)
+row_there false xs ys e = absurd (none≢some e)
 
 -- a trial that is not open has the next place
 place_out : (ns : List ℕ) (n : ℕ) → has ns n ≡ false → place_in ns n ≡ length ns
@@ -121,8 +134,14 @@ module _ (s : State) (g : Gathered) (h : Handed s g) (e : sound_state s ≡ true
       if-number (discovers s.first n && leb 16 s.n_dims) Dimensions
       ∙ ap (λ (k : ℕ). refuse_if (discovers s.first n && leb 16 k) 9) dims-are
 
-  module _ (cl : Bool) (ec : cl ≡ closes) (place : ℕ) (ep : place ≡ place_of s n) (first : Bool) (ef : first ≡ discovers s.first n) (counts : Result ⊤ Refusal)
+  module _ (results : Option (List Float)) (er : results ≡ closing_results s g.values) (cl : Bool) (el : cl ≡ is_some results) (place : ℕ) (ep : place ≡ place_of s n) (first : Bool) (ef : first ≡ discovers s.first n) (counts : Result ⊤ Refusal)
       (en : counts ≡ count_refusal s.discovered first s.n_dims cl place s.n s.n_trials) (verdict : Result ⊤ Refusal) (ev : verdict ≡ first_refusal d g.nan counts) where
+    ec : cl ≡ closes
+    ec = el ∙ ap (λ (o : Option (List Float)). is_some o) er ∙ some_row closes (results_in g.values)
+
+    row_is : counted_in s results ≡ row
+    row_is = ap (λ (o : Option (List Float)). counted_in s o) er ∙ counted_row s closes (results_in g.values)
+
     refusal_is : refusal_of verdict ≡ refusal m n d g.nan row
     unfolding first_refusal refusal view
     refusal_is =
@@ -153,25 +172,33 @@ module _ (s : State) (g : Gathered) (h : Handed s g) (e : sound_state s ≡ true
           go true (Some r) p x = absurd (none≢some (sym x))
           go false o p x = refl
 
-      pub acceptable : Acceptable s d n cl (results_in g.values)
+      pub acceptable : Acceptable s d n results
       acceptable =
           record {
             arrays = h.arrays;
             sound = e;
-            unrefused = (λ i. refusal m n d (sym no_nan i) (row_if (ec i) (take s.n (results_in g.values)))) ∙ unrefused;
-            places = length-map g.values (λ (v : Option Float). unwrap_or v zero_f) ∙ h.places;
-            closing = λ y. found s.discovered (sym ec ∙ y);
-            numbers = λ y. h.numbers e no_nan (sym ec ∙ y);
+            unrefused = (λ i. refusal m n d (sym no_nan i) (row_is i)) ∙ unrefused;
+            closing = λ rs y.
+                let there = row_there closes (results_in g.values) rs (sym er ∙ y) in
+                subst (λ (xs : List Float). Counted s xs) there.1 (counted there.0);
           }
         where
           found : (b : Bool) → closes_now b s.n s.n_trials g.values ≡ true → b ≡ true
           found true x = refl
           found false x = unfold closes_now in absurd (true≢false (sym x))
 
-      accepted-on : accept_on S m.size m n d (row_if cl (take s.n (results_in g.values))) ≡ accept_on S m.size m n d row
-      accepted-on = ap (λ (b : Bool). accept_on S m.size m n d (row_if b (take s.n (results_in g.values)))) ec
+          counted : closes ≡ true → Counted s (results_in g.values)
+          counted y =
+              record {
+                places = length-map g.values (λ (v : Option Float). unwrap_or v zero_f) ∙ h.places;
+                closing = found s.discovered y;
+                numbers = h.numbers e no_nan y;
+              }
 
-      pub given : (a : Result (ParamValue × ℕ) Refusal) (t : State) → given_ok a t ≡ laid_accepted S (accepted_on s d n cl (results_in g.values))
+      accepted-on : accepted_on s d n results ≡ accept_on S m.size m n d row
+      accepted-on = ap (λ (o : Option (List Float)). accept_on S m.size m n d o) row_is
+
+      pub given : (a : Result (ParamValue × ℕ) Refusal) (t : State) → given_ok a t ≡ laid_accepted S (accepted_on s d n results)
           → OnErr a (t ≡ s) → numbered (sampled a t) ≡ sampled_on s d n g.nan row
       given a t e k = go a (accept_on S m.size m n d row) (e ∙ ap (laid_accepted S) accepted-on) k ∙ sym (sampled-is None unrefused)
         where

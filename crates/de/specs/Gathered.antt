@@ -1,7 +1,7 @@
 -- A sample call by what it reads of its history: whether refusal 8 applies, and the counted results where it closes a generation. proofs/On and
 -- proofs/Gather show that it is the call on the history.
 use Rattle.std.specs.Prelude.{ℕ, ◌+◌, Bool, true, false, not, ◌&&◌, cond, List, [], leb, Float, length, map, take}
-use Rattle.std.specs.Prelude.{Option, Some, None, is_none, unwrap_or, slice_get}
+use Rattle.std.specs.Prelude.{Option, Some, None, is_none, option_map, unwrap_or, slice_get}
 use Rattle.distribution.specs.Validate.{judged}
 use Rattle.distribution.specs.declared.Distribution.{Distribution}
 use Rattle.evolution.specs.declared.Setup.{Setup}
@@ -64,13 +64,21 @@ abbrev pub row_if : Bool → List Float → Option (List Float)
 row_if true vs = Some vs
 row_if false vs = None
 
--- a call on the state s that is not refused before, where it closes a generation by the first n results or closes none
-abbrev pub accepted_on : State → Distribution → ℕ → Bool → List Float → Option (Accepted de)
-accepted_on s d n closes results = accept_on s.setup (view s).size (view s) n d (row_if closes (take s.n results))
+-- the counted results, of the list that has them: the first n
+abbrev pub counted_in : State → Option (List Float) → Option (List Float)
+counted_in s results = option_map (take s.n) results
+
+-- a call on the state s that is not refused before, where it closes a generation by the first n results or, with none, closes none
+abbrev pub accepted_on : State → Distribution → ℕ → Option (List Float) → Option (Accepted de)
+accepted_on s d n results = accept_on s.setup (view s).size (view s) n d (counted_in s results)
 
 -- what the history gives each wanted number, as results: 0 where it gives none, which no closing counts
 abbrev pub results_in : List (Option Float) → List Float
 results_in vs = map (λ v. unwrap_or v zero_f) vs
+
+-- the same where the generation closes, and else nothing
+abbrev pub closing_results : State → List (Option Float) → Option (List Float)
+closing_results s vs = row_if (closes_now s.discovered s.n s.n_trials vs) (results_in vs)
 
 -- the results that are counted, if the generation closes: the first n of vs
 abbrev pub row_in : State → List (Option Float) → Option (List Float)

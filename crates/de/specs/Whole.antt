@@ -1,5 +1,5 @@
 -- What the parts of a call are handed: a call that no refusal of 0 and 4 to 10 stops, and what a scan gathers.
-use Rattle.std.specs.Prelude.{Bool, true, false, List, Float, ◌≢◌, ◌≡◌, ℕ, length, take, None}
+use Rattle.std.specs.Prelude.{true, false, List, Float, ◌≢◌, ◌≡◌, ℕ, length, take, Option, Some, None}
 use Rattle.std.specs.Float.{nan}
 use Rattle.distribution.specs.declared.Distribution.{Distribution}
 use Rattle.ledger.specs.Words.{All}
@@ -9,16 +9,20 @@ use Rattle.state.specs.View.{view}
 use Rattle.state.specs.declared.State.{State}
 use Rattle.history.specs.declared.Gathered.{Gathered}
 use Rattle.closing.specs.Raw.{closes_now}
-use Rattle.de.specs.Gathered.{refusal, row_if, results_in}
+use Rattle.de.specs.Gathered.{refusal, counted_in, results_in}
 
--- what the tests before leave: a sound state, none of the refusals 4 to 10, and counted results that are numbers
-pub record Acceptable (s : State) (d : Distribution) (n : ℕ) (closes : Bool) (results : List Float) : Type 0 where
+-- the results of a closing: discovery has ended, and the counted results are numbers
+pub record Counted (s : State) (results : List Float) : Type 0 where
+  pub places : length results ≡ 160
+  pub closing : s.discovered ≡ true
+  pub numbers : All (λ v. v ≢ nan) (take s.n results)
+
+-- what the tests before leave: a sound state, none of the refusals 4 to 10, and the results of a closing if the call closes a generation
+pub record Acceptable (s : State) (d : Distribution) (n : ℕ) (results : Option (List Float)) : Type 0 where
   pub arrays : Measured s
   pub sound : sound_state s ≡ true
-  pub unrefused : refusal (view s) n d false (row_if closes (take s.n results)) ≡ None
-  pub places : length results ≡ 160
-  pub closing : closes ≡ true → s.discovered ≡ true
-  pub numbers : closes ≡ true → All (λ v. v ≢ nan) (take s.n results)
+  pub unrefused : refusal (view s) n d false (counted_in s results) ≡ None
+  pub closing : (rs : List Float) → results ≡ Some rs → Counted s rs
 
 -- what a scan leaves: where a generation closes and no value is NaN, the counted results are numbers
 abbrev pub Numbers : State → Gathered → Type 0

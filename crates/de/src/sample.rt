@@ -1,11 +1,9 @@
 // The sample call (sampler/de.rs, `sample`): refusals first, then discovery, closing and assignment.
 ghost use Rattle.std.specs.Prelude.{◌≡◌, ◌≤◌, length, OnErr};
-ghost use Rattle.rng_util.specs.Gen.{fresh, handed_on};
-ghost use Rattle.closing.specs.Raw.{Closable, raw_close};
 ghost use Rattle.assignment.specs.Raw.{given_ok};
 ghost use Rattle.assignment.specs.Laid.{laid_accepted};
 ghost use Rattle.de.specs.Answer.{numbered, returned, sampled};
-ghost use Rattle.de.specs.Gathered.{accepted_on, sampled_on, row_in, results_in};
+ghost use Rattle.de.specs.Gathered.{accepted_on, sampled_on, row_in, results_in, closing_results};
 ghost use Rattle.de.specs.Refusing.{count_refusal, first_refusal};
 ghost use Rattle.de.specs.Sample.{sample_of};
 ghost use Rattle.de.specs.Whole.{Acceptable, Handed};
@@ -63,34 +61,33 @@ fn results_of(values: &[Option<f64>; 160]) -> [f64; 160]
     values.map(|value| value.unwrap_or(0.0))
 }
 
-// The generation closes with what the history gives its trials. A refusal leaves the state as it was.
-fn close_with(state: &mut State, values: &[Option<f64>; 160]) -> Result<Gen, Refusal>
-    requires { Closable state.old × (state.old.n ≤ length (results_in values.now)) }
-    ensures made { handed_on result state.new ≡ raw_close state.old (results_in values.now) (fresh state.old.word) }
-    ensures kept { OnErr result (state.new ≡ state.old) }
+// The results that the generation closes with, if it closes.
+fn closing_results(state: &State, values: &[Option<f64>; 160]) -> Option<[f64; 160]>
+    requires { state.now.n ≤ length values.now }
+    ensures { result ≡ closing_results state.now values.now }
 {
-    let results = results_of(values);
-    close(state, &results)
+    if closes_now(state, values) {
+        return Some(results_of(values));
+    }
+    None
 }
 
-// A call that no refusal of 0 and 4 to 10 stops: it may close a generation or end discovery first. Refusal 11 leaves the
-// state as it was.
+// A call that no refusal of 0 and 4 to 10 stops: it closes a generation first where it has the results, or may end discovery.
+// Refusal 11 leaves the state as it was.
 fn accept(
     state: &mut State,
     d: Distribution,
     trial: u64,
-    closes: bool,
-    values: &[Option<f64>; 160],
+    results: &Option<[f64; 160]>,
 ) -> Result<(ParamValue, u64), Refusal>
-    requires { Acceptable state.old d trial closes (results_in values.now) }
-    ensures made { given_ok result state.new ≡ laid_accepted state.old.setup (accepted_on state.old d trial closes (results_in values.now)) }
+    requires { Acceptable state.old d trial results.now }
+    ensures made { given_ok result state.new ≡ laid_accepted state.old.setup (accepted_on state.old d trial results.now) }
     ensures kept { OnErr result (state.new ≡ state.old) }
 {
     if state.discovered {
-        let rng = if closes {
-            close_with(state, values)?
-        } else {
-            Gen::new(state.word)
+        let rng = match results {
+            Some(results) => close(state, results)?,
+            None => Gen::new(state.word),
         };
         return sample_active(state, d, trial, rng);
     }
@@ -114,12 +111,12 @@ fn sample_any(
     if !state.is_sound() {
         return Err(Refusal::StateNotSound);
     }
-    let closes = closes_now(state.discovered, state.n, state.n_trials, &g.values);
+    let results = closing_results(state, &g.values);
     let place = place_of(state.trials(), trial);
     let of_discovery = discovers(state.first, trial);
-    let counts = count_refusal(state, of_discovery, closes, place);
+    let counts = count_refusal(state, of_discovery, results.is_some(), place);
     refusal_of(d, g.nan, counts)?;
-    accept(state, d, trial, closes, &g.values)
+    accept(state, d, trial, &results)
 }
 
 // The call, given what its history has: its answer and its draws. A refusal counts none.

@@ -31,5 +31,6 @@ returns-then-any_bad-clause-made c =
 pub returns-clause-made : goal.returns-clause-made
 returns-clause-made c =
     let b = c.settle-best.ensures in
-    closed-so c.args.state.now c.args.results.now _ b.whole b.first (search rules) _ (c.search_space-space.ensures ∙ ap space_of c.dims.ensures) _ _ _ c.next_candidates-candidates.ensures _ c.any_bad.ensures c.if-any_bad.false
-    ∙ ap (raw_close c.args.state.now c.args.results.now) c.new-rng.ensures
+    rw c.blank-state.ensures
+    (closed-so c.args.state.now c.args.results.now _ b.whole b.first (search rules) _ (c.search_space-space.ensures ∙ ap space_of c.dims.ensures) _ _ _ c.next_candidates-candidates.ensures _ c.any_bad.ensures c.if-any_bad.false
+    ∙ ap (raw_close c.args.state.now c.args.results.now) c.new-rng.ensures)
