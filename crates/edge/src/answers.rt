@@ -28,7 +28,7 @@ pub struct DeAnswer {
 }
 
 impl DeAnswer {
-    // Every field is 0. A struct of C's is spelt out field by field once, here and in layout.
+    // Every field is 0. A struct of C's is spelt out field by field once.
     fn none() -> Self
         ensures { result ≡ bare_answer 0 0 }
     {

@@ -23,21 +23,23 @@ impl From<Setup> for DeSetup {
     }
 }
 
-// Every field is 0: spelt out once, as in `answers`.
-fn none() -> DeDistribution
-    ensures { result ≡ flat_none }
-{
-    DeDistribution {
-        kind: 0,
-        low: 0.0,
-        high: 0.0,
-        whole_low: 0,
-        whole_high: 0,
-        log_scale: 0,
-        stepped: 0,
-        step: 0.0,
-        whole_step: 0,
-        n_choices: 0,
+impl DeDistribution {
+    // Every field is 0: spelt out once, here, as an answer's in `answers`.
+    pub fn none() -> Self
+        ensures { result ≡ flat_none }
+    {
+        DeDistribution {
+            kind: 0,
+            low: 0.0,
+            high: 0.0,
+            whole_low: 0,
+            whole_high: 0,
+            log_scale: 0,
+            stepped: 0,
+            step: 0.0,
+            whole_step: 0,
+            n_choices: 0,
+        }
     }
 }
 
@@ -54,7 +56,7 @@ impl From<Distribution> for DeDistribution {
                 log_scale: u64::from(f.log_scale),
                 stepped: u64::from(f.step.is_some()),
                 step: f.step.unwrap_or(0.0),
-                ..none()
+                ..DeDistribution::none()
             },
             Distribution::Int(i) => DeDistribution {
                 kind: 2,
@@ -63,12 +65,12 @@ impl From<Distribution> for DeDistribution {
                 log_scale: u64::from(i.log_scale),
                 stepped: u64::from(i.step.is_some()),
                 whole_step: i.step.unwrap_or(0),
-                ..none()
+                ..DeDistribution::none()
             },
             Distribution::Categorical(c) => DeDistribution {
                 kind: 3,
                 n_choices: c.n_choices,
-                ..none()
+                ..DeDistribution::none()
             },
         }
     }

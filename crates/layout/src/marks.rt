@@ -3,7 +3,7 @@
 // two, in its first and its last place. A field that is a struct holds that struct's own marks, an array of structs holds them in its
 // first and its last place; neither takes a number. So a field more in one struct renumbers nothing in another. The rest is 0.
 ghost use Rattle.std.specs.Prelude.{◌≡◌, ◌-◌, ◌≤◌};
-ghost use Rattle.layout.specs.Marks.{no_marks, ends, marked_state, marked_call, marks};
+ghost use Rattle.layout.specs.Marks.{ends, marked_state, marked_call, marks};
 
 use crate::numbered::{
     answer_marks, candidate_marks, completed_marks, distribution_marks, file_marks, internal_marks,
@@ -47,23 +47,6 @@ pub struct DeMarks {
     pub after_read: u64,
 }
 
-fn no_marks() -> DeDistribution
-    ensures { result ≡ no_marks }
-{
-    DeDistribution {
-        kind: 0,
-        low: 0.0,
-        high: 0.0,
-        whole_low: 0,
-        whole_high: 0,
-        log_scale: 0,
-        stepped: 0,
-        step: 0.0,
-        whole_step: 0,
-        n_choices: 0,
-    }
-}
-
 // Blank items, but for the first and the last.
 fn at_ends<T: Copy, const N: usize>(blank: T, mark: T) -> [T; N]
     requires { 1 ≤ N }
@@ -86,7 +69,7 @@ fn marked_state() -> DeState
         discovered: 3,
         n: 4,
         n_dims: 5,
-        dims: at_ends(no_marks(), distribution_marks()),
+        dims: at_ends(DeDistribution::none(), distribution_marks()),
         candidates: at_ends(Candidate::blank(), candidate_marks()),
         parents: at_ends(blank_member(), member_marks()),
         n_trials: 6,
