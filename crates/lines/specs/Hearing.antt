@@ -1,6 +1,7 @@
 -- What a line comes to, and what it leaves behind.
-use Rattle.std.specs.Prelude.{ℕ, List, ◌≡◌, length, Option, Some, None, Result, Ok, Err, ⊤}
+use Rattle.std.specs.Prelude.{ℕ, List, ◌≡◌, ◌≤◌, length, Option, Some, None, Result, Ok, Err, ⊤}
 use Rattle.history.specs.declared.CompletedTrial.{CompletedTrial}
+use Rattle.script.specs.Commands.{command_of}
 use Rattle.script.specs.Hex.{put_bytes}
 use Rattle.script.specs.declared.command.Command.{Command}
 use Rattle.script.specs.declared.command.Command.TheVariants.{Skip, Clear, Tell, File, Put, Ask}
@@ -41,3 +42,13 @@ pub record Hears (text : List ℕ) (command : Option Command) (a b : Told) (r : 
   -- the history and the kept file are what the line says
   pub history : b.history ≡ entries_after command a.history
   pub kept : b.file ≡ bytes_after text command a.file
+
+-- lines of at most 512 bytes, each settled, lead from a to b
+pub data Settled (a : Told) : Told → Type 0 where
+  none : Settled a a
+  more : (b c : Told) (text : List ℕ) → Settled a b → length text ≤ 512 → Hears text (command_of text) b c (Ok None) → Settled a c
+
+-- lines were taken in, from a to b, up to the first that asks something, or all of them
+abbrev pub TakenIn : Told → Told → Option Question → Type 0
+TakenIn a b None = Settled a b
+TakenIn a b (Some question) = (c : Told) × (text : List ℕ) × Settled a c × (length text ≤ 512) × Hears text (command_of text) c b (Ok (Some question))

@@ -1,7 +1,7 @@
 // What the lines of a script leave behind. Lines that concern the history or the kept file alone are settled here.
-ghost use Rattle.std.specs.Prelude.{◌≡◌, []};
+ghost use Rattle.std.specs.Prelude.{◌≡◌, [], IfOk};
 ghost use Rattle.script.specs.Commands.{command_of};
-ghost use Rattle.lines.specs.Hearing.{Hears};
+ghost use Rattle.lines.specs.Hearing.{Hears, TakenIn};
 
 use crate::Stop;
 use crate::entries::{History, tell};
@@ -49,10 +49,9 @@ impl Told {
     }
 
     // Takes in lines up to the next one that asks something; none where the script has ended.
-    pub fn next_question<R: Read>(
-        &mut self,
-        from: &mut Reader<R>,
-    ) -> Result<Option<Question>, Stop> {
+    pub fn next_question<R: Read>(&mut self, from: &mut Reader<R>) -> Result<Option<Question>, Stop>
+        ensures { IfOk result (λ asked. TakenIn self.old self.new asked) }
+    {
         // A proved loop has to end, and nothing says that the input does.
         for _ in 0..u64::MAX {
             let Some(line) = from.next_line()? else {
