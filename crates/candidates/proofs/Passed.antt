@@ -1,18 +1,17 @@
 -- Lists of dimensions: of each dimension passed the number of choices is stored, and of each continuous one the bounds.
 use Rattle.std.proofs.Common.{◌≡◌, ℕ, ◌+◌, ◌<◌, ◌≤◌, Bool, true, false, cond, List, [], ◌∷◌, ◌++◌, map, length, get_or, set, take, append-nil, sym, ap, ◌∙◌, arith, length-append}
-use lib.ListN.{length-map}
 use lib.Seq.{length-take-le}
-use Rattle.std.proofs.lemmas.List.{get_or_default, take_more, take_all, map-append}
+use Rattle.std.proofs.lemmas.List.{get_or_default, take_all}
 use Rattle.std.proofs.lemmas.List.Elements.{filter_more}
 use Rattle.std.proofs.lemmas.List.Sums.{length-filter, count_by-le-length}
 use Rattle.rng_util.specs.Many.{pad_to}
-use Rattle.rng_util.proofs.Parts.{pad-put}
 use Rattle.distribution.specs.Dims.{is_continuous, choices_of, no_dim}
 use Rattle.distribution.specs.declared.DimensionInfo.{DimensionInfo}
 use Rattle.common.specs.Bounds.{no_bounds, bounds_of}
 use Rattle.common.specs.declared.Bounds.{Bounds}
 use Rattle.candidates.specs.Space.{continuous_dims, continuous_count, continuous_bounds, choice_counts, space_of, FewChoices}
 use Rattle.candidates.specs.declared.Space.{Space}
+use Rattle.candidates.proofs.Lists.{map-put, pad-map_more}
 
 -- at most as many continuous dimensions as dimensions
 pub few-continuous : (ds : List DimensionInfo) → continuous_count ds ≤ length ds
@@ -34,12 +33,6 @@ pub count_fits : (ds : List DimensionInfo) (i k : ℕ) (d : DimensionInfo) → F
 unfolding FewChoices
 count_fits ds i k d few h e = omega (arith, few i h, ap choices_of (get_or_default ds i d no_dim h))
 
--- one place more of a list that is mapped into an array
-map-put : {A B : Type 0} (N : ℕ) (z : B) (f : A → B) (xs : List A) (x : A) (arr : List B) (n : ℕ) → n ≡ length xs → n < N → arr ≡ pad_to N z (map f xs) → set arr n (f x) ≡ pad_to N z (map f (xs ++ (x ∷ [])))
-map-put N z f xs x arr n e h q =
-    let l : n ≡ length (map f xs) = e ∙ sym (length-map xs f) in
-    (λ i. set (q i) (l i) (f x)) ∙ pad-put N z (f x) (map f xs) (omega (arith, l)) ∙ ap (pad_to N z) (sym (map-append f xs (x ∷ [])))
-
 -- i dimensions are passed
 pub record Passed (ds : List DimensionInfo) (i : ℕ) (counts : List ℕ) (bounds : List Bounds) (n : ℕ) : Type 0 where
   pub counted : counts ≡ pad_to 16 0 (choice_counts (take i ds))
@@ -51,10 +44,7 @@ passed-few ds i counts bounds n h p = omega (arith, p.continuous, few-continuous
 
 module _ (ds : List DimensionInfo) (few : length ds ≤ 16) (i : ℕ) (d : DimensionInfo) (h : i < length ds) (counts : List ℕ) (bounds : List Bounds) (n : ℕ) (p : Passed ds i counts bounds n) (k : ℕ) (e : k ≡ choices_of (get_or ds i d)) where
   counted-more : set counts i k ≡ pad_to 16 0 (choice_counts (take (i + 1) ds))
-  counted-more =
-      ap (set counts i) e
-      ∙ map-put 16 0 choices_of (take i ds) (get_or ds i d) counts i (sym (length-take-le i ds (omega arith))) (omega arith) p.counted
-      ∙ ap (λ (l : List DimensionInfo). pad_to 16 0 (choice_counts l)) (sym (take_more ds i d h))
+  counted-more = pad-map_more choices_of 16 0 ds i d counts k h few e p.counted
 
   more : (t : Bool) → is_continuous (get_or ds i d) ≡ t → continuous_dims (take (i + 1) ds) ≡ continuous_dims (take i ds) ++ cond t (get_or ds i d ∷ []) []
   unfolding continuous_dims

@@ -47,10 +47,19 @@ impl Candidate {
     {
         self.choices.get(at.0).copied().unwrap_or(0)
     }
+
+    // Whether an entry is NaN.
+    #[tactic(auto, unfolding(crate::specs::Nan::any_nan))]
+    pub fn has_nan(&self) -> bool
+        ensures { result ≡ any_nan self.now.x }
+    {
+        self.x.iter().any(|v| v.is_nan())
+    }
 }
 
 // What the draws read of the dimensions, made once: the bounds of the n continuous ones in order, and the number of
-// choices of each dimension, 0 for a continuous one. No ghost field bounds n and n_dims: `space_of` is of every list.
+// choices of each dimension, 0 for a continuous one. Arrays with counts: the library has no heap. No ghost field bounds n and n_dims:
+// `space_of` is of every list.
 #[derive(Clone, Copy)]
 pub struct Space {
     pub bounds: [Bounds; 16],
@@ -61,11 +70,11 @@ pub struct Space {
 
 // How many of the dimensions are continuous.
 #[tactic(auto, unfolding(crate::specs::Space::continuous_dims))]
-fn continuous_count(dims: &[DimensionInfo]) -> usize
+pub fn continuous_count(dims: &[DimensionInfo]) -> usize
     ensures { result ≡ continuous_count dims.now }
 {
     dims.iter()
-        .filter(|d| distribution::is_continuous(d.distribution))
+        .filter(|d| d.distribution.is_continuous())
         .count()
 }
 
@@ -82,16 +91,12 @@ pub fn search_space(dims: &[DimensionInfo]) -> Space
     requires { (length dims.now ≤ 16) × FewChoices dims.now }
     ensures { result ≡ space_of dims.now }
 {
-    let none = Bounds {
-        low: 0.0,
-        high: 0.0,
-    };
-    let mut bounds = [none; 16];
+    let mut bounds = [Bounds::none(); 16];
     let mut n = 0;
     let mut counts = [0; 16];
     for (i, d) in dims.iter().enumerate() {
-        counts[i] = distribution::choices_of(d.distribution) as u16;
-        if distribution::is_continuous(d.distribution) {
+        counts[i] = d.distribution.choices() as u16;
+        if d.distribution.is_continuous() {
             bounds[n] = common::internal_bounds(d.distribution);
             n += 1;
         }
@@ -166,18 +171,10 @@ pub fn generate_initial_population(space: &Space, n: usize, rng: &mut Gen) -> [C
     })
 }
 
-// Whether an entry is NaN.
-#[tactic(auto, unfolding(crate::specs::Nan::any_nan))]
-pub fn has_nan(c: &Candidate) -> bool
-    ensures { result ≡ any_nan c.now.x }
-{
-    c.x.iter().any(|v| v.is_nan())
-}
-
 // Whether an entry of the candidates is NaN: refusal 11.
 #[tactic(auto, unfolding(crate::specs::Nan::any_bad))]
 pub fn any_bad(candidates: &[Candidate]) -> bool
     ensures { result ≡ any_bad candidates.now }
 {
-    candidates.iter().any(has_nan)
+    candidates.iter().any(|c| c.has_nan())
 }

@@ -1,7 +1,6 @@
 -- Places of numbers in the range of an i64: the number at its place, and the last place.
-use Rattle.std.proofs.Common.{◌≡◌, ◌+◌, ◌-◌, ◌^◌, ◌<◌, ◌≤◌, suc, ℤ, pos, negsuc, ap, arith, w64, SFits, to_z, of_z, le-leb}
+use Rattle.std.proofs.Common.{◌≡◌, ◌+◌, ◌-◌, ◌^◌, ◌<◌, ◌≤◌, suc, ℤ, pos, negsuc, ap, arith, le-leb}
 use lib.Signed.{mag}
-use mir.ValLaws.{to_z-of_z}
 use borrow.Author.Tests.{lt-leb}
 use Rattle.common.specs.Places.{place_of, at_place}
 
@@ -13,7 +12,3 @@ at-place (negsuc n) h = simp (lt-leb (2 ^ 63) (2 ^ 63 - suc n) (omega arith)) (a
 pub place-le : (z : ℤ) → mag z < 2 ^ 63 → place_of z ≤ 2 ^ 64 - 1
 place-le (pos n) h = omega arith
 place-le (negsuc n) h = omega arith
-
--- what the machine reads back from the bits of a signed number that fits
-pub own-z : (z : ℤ) → SFits w64 z → to_z w64 (of_z w64 z) ≡ z
-own-z z f = to_z-of_z w64 z f

@@ -23,13 +23,13 @@ pub fn from_float(value: f64, d: FloatDistribution) -> f64
 
 // low + k × step, k the drawn number of steps.
 #[tactic(auto, unfolding(crate::specs::Random::random_float))]
-fn random_step(output: u64, low: f64, high: f64, step: f64) -> f64
-    requires { floor_of (div binary64 (sub binary64 high low) step) < 2 ^ 32 }
-    ensures { result ≡ random_float (Some step) low high output }
+fn random_step(output: u64, step: f64, d: FloatDistribution) -> f64
+    requires { floor_of (div binary64 (sub binary64 d.high d.low) step) < 2 ^ 32 }
+    ensures { result ≡ random_float (Some step) d.low d.high output }
 {
-    let n_steps = rounding::floor((high - low) / step);
+    let n_steps = rounding::floor((d.high - d.low) / step);
     let k = rng_util::i64_between(output, 0, n_steps as i64);
-    low + std::num::nearest_i64_to_f64(k) * step
+    d.low + std::num::nearest_i64_to_f64(k) * step
 }
 
 #[tactic(auto, using(crate::proofs::Valid::float_few), unfolding(crate::specs::Random::random_float))]
@@ -39,6 +39,6 @@ pub fn random_float(output: u64, d: FloatDistribution) -> f64
 {
     match d.step {
         None => rng_util::f64_range(d.low, d.high, rng_util::unit(output)),
-        Some(s) => random_step(output, d.low, d.high, s),
+        Some(s) => random_step(output, s, d),
     }
 }

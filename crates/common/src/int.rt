@@ -18,13 +18,13 @@ fn whole(q: f64) -> i128
 
 // low below low, high above high, else the number itself. It is not std's `clamp`, which asks that low is at most high.
 #[tactic(auto, unfolding(crate::specs::FromInternal::clamp_z))]
-fn clamp(x: i128, low: i64, high: i64) -> i64
-    ensures { result ≡ clamp_z x low high }
+fn clamp(x: i128, d: IntDistribution) -> i64
+    ensures { result ≡ clamp_z x d.low d.high }
 {
-    if x < i128::from(low) {
-        low
-    } else if x > i128::from(high) {
-        high
+    if x < i128::from(d.low) {
+        d.low
+    } else if x > i128::from(d.high) {
+        d.high
     } else {
         x as i64
     }
@@ -33,10 +33,10 @@ fn clamp(x: i128, low: i64, high: i64) -> i64
 // from + k × step, k the whole number nearest to q, clamped. In 128 bits no sum leaves the range, and where k is past 64 bits it is past
 // low or high.
 #[tactic(auto, using(crate::proofs::Steps::sums))]
-fn stepped(from: i64, q: f64, step: i64, low: i64, high: i64) -> i64
-    ensures { result ≡ clamp_z (from +ℤ whole_z q *ℤ step) low high }
+fn stepped(from: i64, q: f64, step: i64, d: IntDistribution) -> i64
+    ensures { result ≡ clamp_z (from +ℤ whole_z q *ℤ step) d.low d.high }
 {
-    clamp(i128::from(from) + whole(q) * i128::from(step), low, high)
+    clamp(i128::from(from) + whole(q) * i128::from(step), d)
 }
 
 #[tactic(auto, using(crate::proofs::Steps::cuts), unfolding(crate::specs::FromInternal::from_int, crate::specs::FromInternal::on_step_z))]
@@ -44,24 +44,24 @@ pub fn from_int(value: f64, d: IntDistribution) -> i64
     ensures { result ≡ from_int value d }
 {
     match d.step {
-        None => clamp(whole(value), d.low, d.high),
+        None => clamp(whole(value), d),
         Some(s) => {
             let low = std::num::nearest_i64_to_f64(d.low);
             let q = (value - low) / std::num::nearest_i64_to_f64(s);
-            stepped(d.low, q, s, d.low, d.high)
+            stepped(d.low, q, s, d)
         }
     }
 }
 
 // low + k × step, k the drawn number of steps.
-fn random_step(output: u64, low: i64, high: i64, step: i64) -> i64
-    requires low_le_high { (low ≤ℤ high) × (unsigned_abs low ≤ 2 ^ 53) × (unsigned_abs high ≤ 2 ^ 53) }
+fn random_step(output: u64, step: i64, d: IntDistribution) -> i64
+    requires low_le_high { (d.low ≤ℤ d.high) × (unsigned_abs d.low ≤ 2 ^ 53) × (unsigned_abs d.high ≤ 2 ^ 53) }
     requires pos_bound { pos 0 <ℤ step }
-    ensures { result ≡ random_int (Some step) low high output }
+    ensures { result ≡ random_int (Some step) d.low d.high output }
 {
-    let n_steps = (high - low) / step;
+    let n_steps = (d.high - d.low) / step;
     let k = rng_util::i64_between(output, 0, n_steps);
-    low + k * step
+    d.low + k * step
 }
 
 #[tactic(auto, using(crate::proofs::Valid::ints_valid), unfolding(crate::specs::Random::random_int))]
@@ -71,6 +71,6 @@ pub fn random_int(output: u64, d: IntDistribution) -> i64
 {
     match d.step {
         None => rng_util::i64_between(output, d.low, d.high),
-        Some(s) => random_step(output, d.low, d.high, s),
+        Some(s) => random_step(output, s, d),
     }
 }

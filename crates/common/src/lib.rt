@@ -13,7 +13,7 @@ ghost use Rattle.common.specs.ToInternal.{setting_fails, as_double, to_internal,
 ghost use Rattle.common.specs.Random.{random_value, random_setting};
 ghost use Rattle.rng_util.specs.Gen.{made};
 
-use distribution::validate::{int_bound_fails, validate};
+use distribution::validate::int_bound_fails;
 use distribution::{Distribution, ParamValue, Refusal};
 use rng_util::Gen;
 
@@ -23,7 +23,21 @@ pub struct Bounds {
     pub high: f64,
 }
 
-// The bounds as doubles; zeros for a categorical distribution, which has none.
+impl Bounds {
+    ghost use Rattle.common.specs.Bounds.{no_bounds};
+
+    // No bounds: zeros, which nothing reads.
+    pub fn none() -> Bounds
+        ensures { result ≡ no_bounds }
+    {
+        Bounds {
+            low: 0.0,
+            high: 0.0,
+        }
+    }
+}
+
+// The bounds as doubles; a categorical distribution has none.
 pub fn internal_bounds(d: Distribution) -> Bounds
     ensures { result ≡ bounds d }
 {
@@ -36,10 +50,7 @@ pub fn internal_bounds(d: Distribution) -> Bounds
             low: std::num::nearest_i64_to_f64(i.low),
             high: std::num::nearest_i64_to_f64(i.high),
         },
-        Distribution::Categorical(_) => Bounds {
-            low: 0.0,
-            high: 0.0,
-        },
+        Distribution::Categorical(_) => Bounds::none(),
     }
 }
 
@@ -60,10 +71,7 @@ pub fn from_internal(value: f64, d: Distribution) -> ParamValue
 fn setting_fails(value: ParamValue) -> bool
     ensures { result ≡ setting_fails value }
 {
-    match value {
-        ParamValue::Int(v) => int_bound_fails(v),
-        _ => false,
-    }
+    matches!(value, ParamValue::Int(v) if int_bound_fails(v))
 }
 
 // A Float as it is, a whole number to double; 0 where the kinds differ.
@@ -83,7 +91,7 @@ fn as_double(value: ParamValue, d: Distribution) -> f64
 pub fn to_internal(value: ParamValue, d: Distribution) -> Result<f64, Refusal>
     ensures { (result ≡ to_internal value d) × (internal_refusal result ≡ setting_refusal value d) }
 {
-    validate(d)?;
+    d.validate()?;
     if setting_fails(value) {
         return Err(Refusal::Bounds);
     }
@@ -105,7 +113,8 @@ fn random_value(output: u64, d: Distribution) -> ParamValue
     }
 }
 
-// One draw, whatever the distribution. A stepped Float is not clamped.
+// One draw, whatever the distribution. A stepped Float is not clamped. That the distribution is valid is no type of its own: dimensions
+// and states hold any distribution, and a narrower type would ask more of callers.
 #[tactic(auto, unfolding(crate::specs::Random::random_setting))]
 pub fn sample_random(d: Distribution, rng: &mut Gen) -> ParamValue
     requires d_value { verdict_of d ≡ Ok tt }

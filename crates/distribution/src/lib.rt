@@ -108,19 +108,21 @@ impl Refusal {
     }
 }
 
-// Float and Int are continuous.
-pub fn is_continuous(d: Distribution) -> bool
-    ensures { result ≡ continuous d }
-{
-    !matches!(d, Distribution::Categorical(_))
-}
+impl Distribution {
+    // Float and Int are continuous.
+    pub fn is_continuous(self) -> bool
+        ensures { result ≡ continuous self }
+    {
+        !matches!(self, Distribution::Categorical(_))
+    }
 
-// The number of choices; 0 where there are none.
-pub fn choices_of(d: Distribution) -> u64
-    ensures { result ≡ choices d }
-{
-    match d {
-        Distribution::Categorical(c) => c.n_choices,
-        _ => 0,
+    // The number of choices; 0 where there are none.
+    pub fn choices(self) -> u64
+        ensures { result ≡ choices self }
+    {
+        match self {
+            Distribution::Float(_) | Distribution::Int(_) => 0,
+            Distribution::Categorical(c) => c.n_choices,
+        }
     }
 }

@@ -1,14 +1,14 @@
 // Refusals 4 to 7: which distributions the sampler takes (`validate` of parameter.rs).
 ghost use Rattle.std.specs.Prelude.{◌≡◌};
-ghost use Rattle.distribution.specs.Validate.{is_finite, float_bound_fails, float_bounds_fail, int_bound_fails, int_bounds_fail, float_step_fails, int_step_fails, verdict_of};
+ghost use Rattle.distribution.specs.Validate.{is_finite, float_bound_fails, float_bounds_fail, int_bound_fails, int_bounds_fail, float_step_fails, int_step_fails, refused_if, verdict_of};
 
-use super::{CategoricalDistribution, Distribution, FloatDistribution, IntDistribution, Refusal};
+use super::{CategoricalDistribution, Distribution, Refusal};
 
 // The largest size of a Float bound.
 const FLOAT_LIMIT: f64 = 1e300;
 
 // The largest size of an Int bound, and the largest Int step: 2^53.
-const INT_LIMIT: i64 = 9007199254740992;
+const INT_LIMIT: i64 = 1 << 53;
 
 // The most steps between the bounds of a Float distribution.
 const QUOTIENT_LIMIT: f64 = 4294967295.0;
@@ -44,10 +44,7 @@ fn float_bounds_fail(low: f64, high: f64) -> bool
 fn float_step_fails(low: f64, high: f64, step: Option<f64>) -> bool
     ensures { result ≡ float_step_fails low high step }
 {
-    match step {
-        None => false,
-        Some(s) => !is_finite(s) || !(s > 0.0) || (high - low) / s > QUOTIENT_LIMIT,
-    }
+    step.is_some_and(|s| !is_finite(s) || !(s > 0.0) || (high - low) / s > QUOTIENT_LIMIT)
 }
 
 // Refusal 4 of one Int bound: over 2^53 in size.
@@ -55,7 +52,7 @@ fn float_step_fails(low: f64, high: f64, step: Option<f64>) -> bool
 pub fn int_bound_fails(x: i64) -> bool
     ensures { result ≡ int_bound_fails x }
 {
-    x > INT_LIMIT || x < -INT_LIMIT
+    !(-INT_LIMIT..=INT_LIMIT).contains(&x)
 }
 
 // Refusal 4 of an Int distribution.
@@ -71,62 +68,54 @@ fn int_bounds_fail(low: i64, high: i64) -> bool
 fn int_step_fails(step: Option<i64>) -> bool
     ensures { result ≡ int_step_fails step }
 {
-    match step {
-        None => false,
-        Some(s) => s <= 0 || s > INT_LIMIT,
-    }
+    step.is_some_and(|s| !(1..=INT_LIMIT).contains(&s))
 }
 
-#[tactic(auto, unfolding(crate::specs::Validate::verdict_of))]
-fn validate_float(d: FloatDistribution) -> Result<(), Refusal>
-    ensures { result ≡ verdict_of (Distribution.Float d) }
+// The first of refusals 4 to 6 whose test is met.
+fn verdict_by(bounds_fail: bool, log_scale: bool, step_fails: bool) -> Result<(), Refusal>
+    ensures { result ≡ refused_if bounds_fail Refusal.Bounds (refused_if log_scale Refusal.LogScale (refused_if step_fails Refusal.Step (Ok tt))) }
 {
-    let step = d.step;
-    if float_bounds_fail(d.low, d.high) {
+    if bounds_fail {
         Err(Refusal::Bounds)
-    } else if d.log_scale {
+    } else if log_scale {
         Err(Refusal::LogScale)
-    } else if float_step_fails(d.low, d.high, step) {
+    } else if step_fails {
         Err(Refusal::Step)
     } else {
         Ok(())
     }
 }
 
-#[tactic(auto, unfolding(crate::specs::Validate::verdict_of))]
-fn validate_int(d: IntDistribution) -> Result<(), Refusal>
-    ensures { result ≡ verdict_of (Distribution.Int d) }
-{
-    let step = d.step;
-    if int_bounds_fail(d.low, d.high) {
-        Err(Refusal::Bounds)
-    } else if d.log_scale {
-        Err(Refusal::LogScale)
-    } else if int_step_fails(step) {
-        Err(Refusal::Step)
-    } else {
-        Ok(())
-    }
-}
-
+// Refusal 7: no choices, or too many.
 #[tactic(auto, unfolding(crate::specs::Validate::verdict_of))]
 fn validate_categorical(d: CategoricalDistribution) -> Result<(), Refusal>
     ensures { result ≡ verdict_of (Distribution.Categorical d) }
 {
-    if d.n_choices == 0 || d.n_choices > CHOICES_LIMIT {
-        Err(Refusal::Choices)
-    } else {
+    if (1..=CHOICES_LIMIT).contains(&d.n_choices) {
         Ok(())
+    } else {
+        Err(Refusal::Choices)
     }
 }
 
-// The first refusal of 4 to 7 that applies.
-pub fn validate(d: Distribution) -> Result<(), Refusal>
-    ensures { result ≡ verdict_of d }
-{
-    match d {
-        Distribution::Float(f) => validate_float(f),
-        Distribution::Int(i) => validate_int(i),
-        Distribution::Categorical(c) => validate_categorical(c),
+impl Distribution {
+    // The first refusal of 4 to 7 that applies.
+    #[tactic(auto, unfolding(crate::specs::Validate::verdict_of))]
+    pub fn validate(self) -> Result<(), Refusal>
+        ensures { result ≡ verdict_of self }
+    {
+        match self {
+            Distribution::Float(f) => verdict_by(
+                float_bounds_fail(f.low, f.high),
+                f.log_scale,
+                float_step_fails(f.low, f.high, f.step),
+            ),
+            Distribution::Int(i) => verdict_by(
+                int_bounds_fail(i.low, i.high),
+                i.log_scale,
+                int_step_fails(i.step),
+            ),
+            Distribution::Categorical(c) => validate_categorical(c),
+        }
     }
 }

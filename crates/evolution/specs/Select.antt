@@ -39,7 +39,7 @@ first_index N i g = select_index N (i ∷ []) g
 abbrev pub second_index : ℕ → ℕ → Made ℕ → Made ℕ
 second_index N i a = select_index N (i ∷ a.out ∷ []) a.after
 
--- the third none of i, the first and the second; where only two are drawn, slot i stands in its place, which nothing reads
+-- the third none of i, the first and the second; where only two are drawn, slot i stands in its place, which nothing uses
 abbrev pub third_index : ℕ → ℕ → ℕ → Made ℕ → Made ℕ → Made ℕ
 third_index count N i a b = cond (eqb count 3) (select_index N (i ∷ a.out ∷ b.out ∷ []) b.after) (made i b.after)
 

@@ -27,13 +27,36 @@ pub enum DEStrategy {
 }
 
 impl DEStrategy {
-    ghost use Rattle.evolution.specs.Strategy.{strategy_number};
+    ghost use Rattle.evolution.specs.Strategy.{strategy_number, strategy_from};
+    ghost use Rattle.evolution.specs.Select.{index_count};
 
-    // The number that C and a saved file know a strategy by.
+    // The number that C and a saved file know a strategy by: the cases stand in their order.
     pub fn number(self) -> u64
         ensures { result ≡ strategy_number self }
     {
         self as u64
+    }
+
+    // The strategy that a number stands for; any other number stands for none.
+    pub fn from_number(number: u64) -> Option<DEStrategy>
+        ensures { result ≡ strategy_from number }
+    {
+        match number {
+            0 => Some(DEStrategy::Rand1),
+            1 => Some(DEStrategy::Best1),
+            2 => Some(DEStrategy::CurrentToBest1),
+            _ => None,
+        }
+    }
+
+    // How many indices are drawn for a mutant: three for Rand1, two otherwise.
+    pub fn index_count(self) -> usize
+        ensures { result ≡ index_count self }
+    {
+        match self {
+            DEStrategy::Rand1 => 3,
+            DEStrategy::Best1 | DEStrategy::CurrentToBest1 => 2,
+        }
     }
 }
 
@@ -85,11 +108,12 @@ fn cross_entry(
     requires { rng.old.draws < 2 ^ 63 }
     ensures { made result rng.new ≡ cross_entry rate j_rand mutant x bounds j rng.old }
 {
-    if j == j_rand || rng_util::unit(rng.draw()) < rate {
-        clamp_to_bounds(mutant, bounds)
+    let entry = if j == j_rand || rng_util::unit(rng.draw()) < rate {
+        mutant
     } else {
-        clamp_to_bounds(x, bounds)
-    }
+        x
+    };
+    clamp_to_bounds(entry, bounds)
 }
 
 // Binomial crossover of a parent with its mutant.
@@ -109,7 +133,8 @@ fn crossover(
     })
 }
 
-// The trial vector of slot i: mutation, crossover, then choices.
+// The trial vector of slot i: mutation, crossover, then choices. Set-up, parents, best slot, space and generator are no struct here and
+// in the two functions below: they are lent for one call, by the state, by its dimensions and by the call.
 fn trial_vector(
     setup: &Setup,
     parents: &[Member],

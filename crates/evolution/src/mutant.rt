@@ -5,7 +5,7 @@ ghost use Rattle.rng_util.specs.Many.{padded, pad_to};
 ghost use Rattle.common.specs.Bounds.{zero_f};
 ghost use Rattle.evolution.specs.Mutant.{entries, mutant_entry, mutant_of, mutated};
 
-use crate::select::{index_count, select_random_indices};
+use crate::select::select_random_indices;
 use crate::{DEStrategy, Indices, Member, Setup};
 use rng_util::Gen;
 
@@ -41,6 +41,7 @@ fn create_mutant(
     let x3 = &parents[t.r3].candidate.x;
     let f = setup.mutation_factor;
     let mut v = [0.0; 16];
+    // By place: five rows are read at each.
     for j in 0..n {
         v[j] = mutant_entry(setup.strategy, f, x[j], b[j], x1[j], x2[j], x3[j]);
     }
@@ -56,10 +57,12 @@ pub fn create_mutant_with_rng(
     n: usize,
     rng: &mut Gen,
 ) -> [f64; 16]
-    requires { (4 ≤ length parents.now) × (best < length parents.now) × (target < length parents.now) × (n ≤ 16) × (rng.old.draws < 2 ^ 61) }
+    requires slots { (4 ≤ length parents.now) × (best < length parents.now) × (target < length parents.now) }
+    requires dims { n ≤ 16 }
+    requires draws { rng.old.draws < 2 ^ 61 }
     ensures { made result rng.new ≡ padded 16 zero_f (mutated setup.now (entries parents.now) (length parents.now) best target n rng.old) }
 {
-    let count = index_count(setup.strategy);
+    let count = setup.strategy.index_count();
     let t = select_random_indices(parents.len(), count, target, rng);
     create_mutant(setup, parents, best, target, n, t)
 }

@@ -1,9 +1,9 @@
 // The indices of a mutant (`select_random_indices`): drawn, and rejected where they may not be taken.
 ghost use Rattle.std.specs.Prelude.{◌≡◌, ◌<◌, ◌≤◌, ◌^◌};
 ghost use Rattle.rng_util.specs.Gen.{made};
-ghost use Rattle.evolution.specs.Select.{is_free, lowest_free, select_index, index_count, indices_of};
+ghost use Rattle.evolution.specs.Select.{is_free, lowest_free, select_index, indices_of};
 
-use crate::{DEStrategy, Indices};
+use crate::Indices;
 use rng_util::Gen;
 
 // Whether i is none of those taken.
@@ -35,18 +35,7 @@ fn select_random_index(n: usize, taken: &[usize], rng: &mut Gen) -> usize
     lowest_free(taken)
 }
 
-// Three for Rand1, two otherwise. Kept: draws need a count, and the enum is asked for it here alone.
-pub fn index_count(strategy: DEStrategy) -> usize
-    ensures { result ≡ index_count strategy }
-{
-    match strategy {
-        DEStrategy::Rand1 => 3,
-        DEStrategy::Best1 => 2,
-        DEStrategy::CurrentToBest1 => 2,
-    }
-}
-
-// `count` (2 or 3) distinct indices below n, none of them `exclude`. Where two are drawn, nothing reads the third.
+// `count` (2 or 3) distinct indices below n, none of them `exclude`. Where two are drawn, nothing uses the third.
 pub fn select_random_indices(n: usize, count: usize, exclude: usize, rng: &mut Gen) -> Indices
     requires { (4 ≤ n) × (rng.old.draws < 2 ^ 61) }
     ensures { made result rng.new ≡ indices_of count n exclude rng.old }

@@ -1,4 +1,6 @@
 // A list in fixed memory, where a `Vec` would keep its items on the heap.
+// It is not `ArrayVec` of the toolchain's crates: that lends no place behind its last item, where a save writes its bytes before it says how
+// many they are; it writes its blanks again at each `clear`; and it appends a slice with a `Result`, where a caller here has shown room.
 #![tactic(auto)]
 
 ghost use Rattle.std.specs.Prelude.{◌≡◌, ◌+◌, ◌<◌, ◌≤◌, ◌++◌, [], ◌∷◌, length};

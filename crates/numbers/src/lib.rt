@@ -6,6 +6,8 @@ ghost use Rattle.std.specs.Float.Ieee.{to_bits};
 ghost use Rattle.std.specs.Float.{binary64};
 ghost use Rattle.numbers.specs.Numbers.{digit_of, digit_in, number_of, whole_of, pattern_of, real_of, double_of, plain, negated, int_of};
 
+use std::num::{f64_from_bits_with_nan, f64_to_bits_with_nan};
+
 // The value of a digit: `0` to `9`, then `a` to `f`.
 #[tactic(auto, unfolding(crate::specs::Numbers::digit_of))]
 pub fn digit(b: u8) -> Option<u64>
@@ -26,7 +28,7 @@ fn digit_in(b: u8, base: u64) -> Option<u64>
     (d < base).then_some(d)
 }
 
-// The number that s spells in base, unless it passes 64 bits on the way.
+// The number that s spells in base, unless it passes 64 bits on the way. By hand: std's `from_str_radix` takes a sign, and capitals too.
 #[tactic(auto, using(crate::proofs::Laws::turns))]
 pub fn number(s: &[u8], base: u64) -> Option<u64>
     ensures { result ≡ number_of base s.now }
@@ -55,28 +57,18 @@ pub fn read_pattern(s: &[u8]) -> Option<u64>
     if s.len() == 16 { number(s, 16) } else { None }
 }
 
-// The double of a bit pattern; any NaN pattern gives NaN, where `f64::from_bits` is not defined here.
+// The double of a bit pattern; any NaN pattern gives NaN. This and the next are std's, under the names that files and scripts read by.
 pub fn real(w: u64) -> f64
     ensures { result ≡ real_of w }
 {
-    if w % 9223372036854775808 / 4503599627370496 != 2047 {
-        return f64::from_bits(w);
-    }
-    if w % 4503599627370496 == 0 {
-        return f64::from_bits(w);
-    }
-    f64::NAN
+    f64_from_bits_with_nan(w)
 }
 
-// The bit pattern of a double; 7ff8000000000000 of NaN, where `f64::to_bits` is not defined here.
+// The bit pattern of a double; 7ff8000000000000 of NaN.
 pub fn bits_of(x: f64) -> u64
     ensures { result ≡ to_bits binary64 x }
 {
-    if x.is_nan() {
-        0x7ff8_0000_0000_0000
-    } else {
-        x.to_bits()
-    }
+    f64_to_bits_with_nan(x)
 }
 
 // A double, by its bit pattern.

@@ -1,2 +1,3 @@
+pub mod Few
 pub mod Units
 pub mod Parts

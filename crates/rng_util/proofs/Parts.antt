@@ -1,10 +1,9 @@
 -- A loop that makes things in order and stores them from place 0 on: what it has made and stored after i turns is `many` of i, padded with d to N places.
 -- Three laws are the loop's needs: at its start, for a turn, and how much has been drawn. And what holds of all that is made.
-use Rattle.std.proofs.Common.{◌≡◌, ℕ, zero, suc, ◌+◌, ◌-◌, ◌*◌, ◌<◌, ◌≤◌, List, [], ◌∷◌, ◌++◌, length, set, get_or, take, drop, replicate, append-nil, sym, refl, ap, ◌∙◌, append_assoc, arith, add-one, add-zero, length-append}
+use Rattle.std.proofs.Common.{◌≡◌, ℕ, zero, suc, ◌+◌, ◌-◌, ◌*◌, ◌<◌, ◌≤◌, List, [], ◌∷◌, ◌++◌, length, set, get_or, replicate, sym, refl, ap, ◌∙◌, append_assoc, arith, add-one, add-zero, length-append}
 use native.Mathlib.Nat.{sub-zero}
 use lib.ListN.{length-replicate, get_or-append}
 use lib.Seq.{set-append_seam}
-use Rattle.std.proofs.lemmas.List.{take-replicate, drop-replicate}
 use Rattle.rng_util.specs.declared.Gen.{Gen}
 use Rattle.rng_util.specs.Gen.{Made, made, draw_of}
 use Rattle.rng_util.specs.Many.{pad_to, padded, cons_made, many, listed}
@@ -99,7 +98,7 @@ module _ {A : Type 0} (f : ℕ → A) where
   listed-length zero i = refl
   listed-length (suc k) i = ap suc (listed-length k (i + 1))
 
-  listed-last : (k i : ℕ) → listed f (suc k) i ≡ listed f k i ++ (f (i + k) ∷ [])
+  pub listed-last : (k i : ℕ) → listed f (suc k) i ≡ listed f k i ++ (f (i + k) ∷ [])
   unfolding listed
   listed-last zero i = rw (add-zero i)
   listed-last (suc k) i =

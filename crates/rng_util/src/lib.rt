@@ -10,14 +10,15 @@ ghost use Rattle.rng_util.specs.Many.{padded, many};
 ghost use Rattle.rng_util.specs.Calls.{DrawsFew, MakesBy};
 ghost use Rattle.rng_util.specs.declared.Gen.{Gen};
 
-// The new word, and the output that belongs to it.
+// The new word, and the output that belongs to it. It is no `Gen`: a step counts no draws, so it asks for no count that fits.
 #[derive(Clone, Copy)]
 pub struct Stepped {
     pub word: u64,
     pub output: u64,
 }
 
-// The generator's word, and how many draws the call has made so far.
+// The generator's word, and how many draws the call has made so far. No ghost field bounds `draws`: each function asks for the room
+// that its own draws need.
 #[derive(Clone, Copy)]
 pub struct Gen {
     pub word: u64,
@@ -105,7 +106,8 @@ pub fn f64_range(low: f64, high: f64, u: f64) -> f64
     low + u * (high - low)
 }
 
-// n things made in order, each from the generator that the one before it left; the places after them are `blank`.
+// n things made in order, each from the generator that the one before it left; the places after them are `blank`. By place: `make` is
+// handed it.
 #[inline]
 pub fn many<T: Copy, const N: usize, F: Fn(usize, &mut Gen) -> T>(
     blank: T,

@@ -7,21 +7,21 @@ use Rattle.common.proofs.int.random_step.Goals as goal
 
 pub i64_between-k-requires : goal.i64_between-k-requires
 i64_between-k-requires c =
-    let s = strides c.args.low c.args.high c.args.step c.args.output c.ranges.step c.requires.low_le_high c.requires.pos_bound in
+    let s = strides c.args.d.low c.args.d.high c.args.step c.args.output c.ranges.step c.requires.low_le_high c.requires.pos_bound in
     grind (arith, ints, to_z-of_z)
 
 pub overflow_mul-result : goal.overflow_mul-result
 overflow_mul-result c =
-    let s = strides c.args.low c.args.high c.args.step c.args.output c.ranges.step c.requires.low_le_high c.requires.pos_bound in
+    let s = strides c.args.d.low c.args.d.high c.args.step c.args.output c.ranges.step c.requires.low_le_high c.requires.pos_bound in
     grind (arith, ints, to_z-of_z)
 
 pub overflow_add-result : goal.overflow_add-result
 overflow_add-result c =
-    let s = strides c.args.low c.args.high c.args.step c.args.output c.ranges.step c.requires.low_le_high c.requires.pos_bound in
+    let s = strides c.args.d.low c.args.d.high c.args.step c.args.output c.ranges.step c.requires.low_le_high c.requires.pos_bound in
     grind (arith, ints, to_z-of_z)
 
 pub returns : goal.returns
 unfolding random_int
 returns c =
-    let s = strides c.args.low c.args.high c.args.step c.args.output c.ranges.step c.requires.low_le_high c.requires.pos_bound in
+    let s = strides c.args.d.low c.args.d.high c.args.step c.args.output c.ranges.step c.requires.low_le_high c.requires.pos_bound in
     grind (arith, ints, to_z-of_z)
