@@ -12,5 +12,7 @@ place-first : (n : ℕ) (ts : List TrialProgress) → place_in (map number_in ts
 unfolding place_in
 place-first n = is_position_or_len (λ ts. place_in (map number_in ts) n) (λ t. t.number == n) refl (λ t ts. let e : suc (place_in (map number_in ts) n) ≡ 1 + place_in (map number_in ts) n = omega arith in rw e)
 
-pub place-position : (ts : List TrialProgress) (n : ℕ) → unwrap_or (position (λ t. t.number == n) ts) (length ts) ≡ place_in (map number_in ts) n
+pub place-position : (ts : List TrialProgress) (n : ℕ) → place_in (map number_in ts) n ≡ unwrap_or (position (λ t. t.number == n) ts) (length ts)
 place-position ts n = grind (arith, nat_tests, place-first, prefix_len-le-length)
+
+pub ruleset positions = (place-position)

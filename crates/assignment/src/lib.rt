@@ -23,7 +23,7 @@ use state::{State, TrialProgress};
 fn decode(d: Distribution, at: DimIdx, ci: Ci, c: &Candidate) -> ParamValue
     ensures { result ≡ decoded_by d at ci c.now }
 {
-    if distribution::is_continuous(d) {
+    if d.is_continuous() {
         return common::from_internal(c.entry(ci), d);
     }
     ParamValue::Categorical(u64::from(c.choice(at)))
@@ -68,7 +68,7 @@ fn assign_candidate(state: &State, place: usize, rng: &mut Gen) -> Result<Candid
     }
     let space = candidates::search_space(state.dims());
     let extra = candidates::random_candidate(&space, rng);
-    if candidates::has_nan(&extra) {
+    if extra.has_nan() {
         return Err(Refusal::EntryNan);
     }
     Ok(extra)

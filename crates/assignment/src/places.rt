@@ -5,7 +5,7 @@ ghost use Rattle.assignment.specs.Raw.{number_in};
 
 use state::TrialProgress;
 
-// Where a trial stands, if it is open.
+// Where a trial stands, if it is open. On its own: of `position` with `unwrap_or` behind it, `returns` stays open without an answers file.
 fn find_place(trials: &[TrialProgress], number: u64) -> Option<usize>
     ensures { result ≡ position (λ t. t.number == number) trials.now }
 {
@@ -13,6 +13,7 @@ fn find_place(trials: &[TrialProgress], number: u64) -> Option<usize>
 }
 
 // The place of a trial among the open ones: the next one for a new trial.
+#[tactic(auto, using(crate::proofs::PlaceLaws::positions))]
 pub fn place_of(trials: &[TrialProgress], number: u64) -> usize
     ensures { result ≡ place_in (map number_in trials.now) number }
 {

@@ -2,13 +2,15 @@
 use Rattle.std.specs.Prelude.{Ok, Err}
 use mathlib.Core.Path.{◌≡◌, sym, ap, ap₂, ◌∙◌}
 use mathlib.Core.Bool.{Bool, true, false, cond}
-use mathlib.Core.List.{List, [], ◌∷◌}
+use mathlib.Core.List.{List}
 use Prim.Native.Nat.{ℕ, ◌-◌, ◌≤◌, ◌<◌, min}
 use native.Mathlib.Omega.{arith}
 use lib.Dec.{eqb}
 use lib.Ieee.{Float, lt}
 use lib.ListN.{length, take, replicate, length-map}
 use lib.Seq.{take_at, length-take-le}
+use Rattle.std.specs.List.{zip}
+use Rattle.std.proofs.lemmas.Slice.Zip.{length-zip}
 use Rattle.rng_util.specs.Gen.{Made, made}
 use Rattle.rng_util.specs.Many.{padded}
 use Rattle.rng_util.specs.declared.Gen.{Gen}
@@ -24,6 +26,7 @@ use Rattle.selection.specs.Best.{values, best_slot, least_value}
 use Rattle.selection.specs.Records.{blank_member, members_rec}
 use Rattle.selection.specs.Select.{selected, stored}
 use Rattle.selection.proofs.Best.{best-below}
+use Rattle.selection.proofs.Slots.{stored_one, stored-zip, selected_one, selected-zip}
 use Rattle.ledger.specs.Closing.{up, new_idle}
 use Rattle.kernel.proofs.Fit.{nexts_length}
 use Rattle.state.specs.Blank.{blank_trial}
@@ -34,17 +37,10 @@ use Rattle.closing.specs.declared.Slots.{Slots}
 -- ---- how many
 
 stored-length : (cs : List Candidate) (rs : List Float) → length (stored cs rs) ≡ min (length cs) (length rs)
-unfolding stored
-stored-length [] rs = omega arith
-stored-length (c ∷ cs) [] = omega arith
-stored-length (c ∷ cs) (r ∷ rs) = omega (arith, stored-length cs rs)
+stored-length cs rs = ap (λ (ms : List Member). length ms) (sym (stored-zip cs rs)) ∙ length-map (zip cs rs) stored_one ∙ length-zip cs rs
 
-selected-length : (ps : List Member) (cs : List Candidate) (rs : List Float) → length (selected ps cs rs) ≡ min (length ps) (min (length cs) (length rs))
-unfolding selected
-selected-length [] cs rs = omega arith
-selected-length (p ∷ ps) [] rs = omega arith
-selected-length (p ∷ ps) (c ∷ cs) [] = omega arith
-selected-length (p ∷ ps) (c ∷ cs) (r ∷ rs) = omega (arith, selected-length ps cs rs)
+selected-length : (ps : List Member) (cs : List Candidate) (rs : List Float) → length (selected ps cs rs) ≡ min (min (length ps) (length cs)) (length rs)
+selected-length ps cs rs = ap (λ (ms : List Member). length ms) (sym (selected-zip ps cs rs)) ∙ length-map (zip (zip ps cs) rs) selected_one ∙ length-zip (zip ps cs) rs ∙ ap (λ (n : ℕ). min n (length rs)) (length-zip ps cs)
 
 parents_length : (k : ℕ) (ps : List Member) (cs : List Candidate) (rs : List Float) → length cs ≡ length ps → length rs ≡ length ps → length (parents_after k ps cs rs) ≡ length ps
 unfolding parents_after

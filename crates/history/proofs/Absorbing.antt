@@ -1,9 +1,11 @@
 -- One entry, place by place: the first places that want its number hold its value, all else is as before.
-use Rattle.std.proofs.Common.{◌≡◌, ◌≢◌, ℕ, ◌+◌, Bool, true, ◌||◌, List, Option, Some, get_or, sym, ap, ◌∙◌, arith}
+use Rattle.std.proofs.Common.{◌≡◌, ◌≢◌, ℕ, ◌+◌, ◌≤◌, Bool, true, false, ◌&&◌, ◌||◌, List, Option, Some, length, get_or, take, refl, sym, ap, ◌∙◌, arith}
 use Rattle.std.proofs.Math.ListN.{set}
 use Rattle.std.proofs.Math.Bool.{or_comm}
-use Rattle.std.specs.Prelude.{Float}
+use Rattle.std.specs.Prelude.{Float, eqb, ltb}
 use Rattle.std.proofs.lemmas.Bool.{eq-eqb, ne_eqb}
+use Rattle.std.proofs.lemmas.List.{length-take, get_or-take}
+use borrow.Author.Tests.{ltb-true}
 use Rattle.history.specs.Entry.{is_bad, counted_value}
 use Rattle.history.specs.Scan.{wanted, wants, put_where, absorbed}
 use Rattle.history.specs.declared.CompletedTrial.{CompletedTrial}
@@ -41,10 +43,23 @@ module _ (ns : List ℕ) (g : Gathered) (m : ℕ) (v : Float) where
         same : (i : ℕ) → wants (j + 1) ns m i ≡ wants j ns m i
         same = wants-miss ns m j (ne_eqb _ _ (λ z. ne (sym z)))
 
--- all places are done
-pub all-filled : (ns : List ℕ) (g : Gathered) (e : CompletedTrial) (b : Bool) (v : Float) (k : ℕ) → b ≡ is_bad e → v ≡ counted_value e → k ≡ wanted ns
-    → filled ns (noted g b) e.number v k ≡ absorbed ns g e
+-- all places are done: they are as many as are wanted, and no more than there are
+pub all-filled : (ns : List ℕ) (n : ℕ) (g : Gathered) (e : CompletedTrial) (b : Bool) (v : Float) (k : ℕ)
+    → n ≡ wanted ns → b ≡ is_bad e → v ≡ counted_value e → k ≤ length (take n ns) → length (take n ns) ≤ k
+    → filled (take n ns) (noted g b) e.number v k ≡ absorbed ns g e
 unfolding filled absorbed
-all-filled ns g e b v k bad counted all = rw (bad, counted, all, or_comm g.nan (is_bad e))
+all-filled ns n g e b v k few bad counted below above =
+    rw (bad, counted, few, or_comm g.nan (is_bad e))
+    (ap (λ (vs : List (Option Float)). record { nan = is_bad e || g.nan; values = vs }) (put_same (Some (counted_value e)) _ _ g.values same))
+  where
+    whole : k ≡ wanted ns
+    whole = omega (arith, length-take n ns)
+
+    same : (i : ℕ) → wants k (take (wanted ns) ns) e.number i ≡ wants (wanted ns) ns e.number i
+    same i = rw whole (go (ltb i (wanted ns)) refl)
+      where
+        go : (b : Bool) → ltb i (wanted ns) ≡ b → (b && eqb e.number (get_or (take (wanted ns) ns) i 0)) ≡ (b && eqb e.number (get_or ns i 0))
+        go true z = ap (eqb e.number) (get_or-take (wanted ns) ns i 0 (ltb-true i (wanted ns) z))
+        go false z = refl
 
 pub ruleset absorbing = (filled_none, hit, miss, all-filled)

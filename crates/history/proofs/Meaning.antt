@@ -1,5 +1,5 @@
 -- What a scan gathers, said of the history as a whole. Entries that cannot matter are left out without loss (`nothing-lost`); then by induction on the history, place by place.
-use Rattle.std.specs.Prelude.{Option, Some, None, is_some}
+use Rattle.std.specs.Prelude.{Option, Some, None}
 use mathlib.Core.Path.{◌≡◌, refl, sym, ap, ◌∙◌}
 use mathlib.Core.Logic.{◌≢◌}
 use Prim.Native.Nat.{ℕ, ◌<◌, ◌≤◌}
@@ -12,7 +12,7 @@ use lib.ListN.{length, get_or}
 use borrow.Author.Tests.{ltb-true, le-leb, ne_eqb}
 use Rattle.history.specs.Entry.{is_bad, counted_value}
 use Rattle.history.specs.Scan.{wanted, number_at, Within, wanting, put_where, absorbed, may_matter, gathered, gathered_all}
-use Rattle.history.specs.History.{any_nan, has_number, latest, last_of, last_value}
+use Rattle.history.specs.History.{any_nan, latest, last_of, last_value}
 use Rattle.history.specs.declared.CompletedTrial.{CompletedTrial}
 use Rattle.history.specs.declared.Gathered.{Gathered}
 use Rattle.history.proofs.Places.{put-none, put-length, put-at, wants-in}
@@ -94,17 +94,6 @@ module _ (ns : List ℕ) where
   all-at [] g i l s = refl
   all-at (e ∷ es) g i l s = all-at es (absorbed ns g e) i l (rw (as_long g e) s) ∙ ap (last_of (number_at ns i) es) (absorbed-at g e i l s)
 
--- `last_of` finds a value where the number stands anywhere, or one was found before
-latest-found : (m : ℕ) (h : List CompletedTrial) (o : Option Float) → is_some (last_of m h o) ≡ (has_number m h || is_some o)
-unfolding latest has_number
-latest-found m [] o = refl
-latest-found m (e ∷ es) o = latest-found m es (cond (eqb e.number m) (Some (counted_value e)) o) ∙ by-case (eqb e.number m) (has_number m es)
-  where
-    by-case : (t u : Bool) → (u || is_some (cond t (Some (counted_value e)) o)) ≡ ((t || u) || is_some o)
-    by-case true true = refl
-    by-case true false = refl
-    by-case false u = refl
-
 -- ---- the theorems
 -- "its last entry counts": an entry that is added at the end counts for its number, and for no other
 pub last_entry : (m : ℕ) (h : List CompletedTrial) (e : CompletedTrial) → last_value m (h ++ (e ∷ [])) ≡ cond (eqb e.number m) (Some (counted_value e)) (last_value m h)
@@ -134,10 +123,6 @@ module _ (lo hi : ℕ) (ns : List ℕ) where
     -- a place's value: that of the last entry with its number, or as before
     pub gathered-value : get_or (gathered lo hi ns h g).values i None ≡ last_of (number_at ns i) h (get_or g.values i None)
     gathered-value = ap (λ (x : Gathered). get_or x.values i None) (nothing-lost lo hi ns h g in-range) ∙ all-at ns h g i l s
-
-    -- a place's number is found: some entry has it, or it was found before
-    pub gathered-found : is_some (get_or (gathered lo hi ns h g).values i None) ≡ (has_number (number_at ns i) h || is_some (get_or g.values i None))
-    gathered-found = ap (λ (o : Option Float). is_some o) gathered-value ∙ latest-found (number_at ns i) h (get_or g.values i None)
 
     -- from a place where nothing was found before: the value of the last entry with its number, and nothing where no entry has it
     pub gathered-last : get_or g.values i None ≡ None → get_or (gathered lo hi ns h g).values i None ≡ last_value (number_at ns i) h

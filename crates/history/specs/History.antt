@@ -8,11 +8,6 @@ unfoldable pub any_nan : List CompletedTrial → Bool
 any_nan [] = false
 any_nan (e ∷ es) = is_bad e || any_nan es
 
--- some entry has the number m
-unfoldable pub has_number : ℕ → List CompletedTrial → Bool
-has_number m [] = false
-has_number m (e ∷ es) = eqb e.number m || has_number m es
-
 -- "If a number stands twice, its last entry counts": from the first entry to the last, each with the number m puts what it gives in place of a, which was given before
 unfoldable pub latest : {A : Type 0} → (CompletedTrial → A) → ℕ → List CompletedTrial → A → A
 latest give m [] a = a

@@ -23,20 +23,22 @@ pub struct Gathered {
     pub values: [Option<f64>; 160],
 }
 
-// Refusal 8: the value is NaN.
-#[tactic(auto, unfolding(crate::specs::Entry::is_bad))]
-pub fn is_bad(entry: CompletedTrial) -> bool
-    ensures { result ≡ is_bad entry }
-{
-    entry.value.is_nan()
-}
+impl CompletedTrial {
+    // Refusal 8: the value is NaN.
+    #[tactic(auto, unfolding(crate::specs::Entry::is_bad))]
+    pub fn is_bad(self) -> bool
+        ensures { result ≡ is_bad self }
+    {
+        self.value.is_nan()
+    }
 
-// What the entry counts as for its trial.
-#[tactic(auto, unfolding(crate::specs::Entry::counted_value))]
-pub fn counted_value(entry: CompletedTrial) -> f64
-    ensures { result ≡ counted_value entry }
-{
-    entry.value
+    // What the entry counts as for its trial.
+    #[tactic(auto, unfolding(crate::specs::Entry::counted_value))]
+    pub fn counted_value(self) -> f64
+        ensures { result ≡ counted_value self }
+    {
+        self.value
+    }
 }
 
 impl Gathered {
@@ -51,17 +53,18 @@ impl Gathered {
     }
 
     // One entry more: its value takes the place of what an earlier entry gave. Out of line, so that the scan's loop over entries that
-    // do not matter stays small: a fifth of the time, of entries in a slice.
+    // do not matter stays small: a fifth of the time, of entries in a slice. It is not a `zip` with `values.iter_mut()`:
+    // what is written through an adapter of `iter_mut` is not known behind a loop (docs/DECISIONS.md, "Limits of the toolchain met").
     #[inline(never)]
     #[tactic(auto, using(crate::proofs::Absorbing::absorbing))]
     pub fn absorb(&mut self, wanted: &[u64], entry: CompletedTrial)
         ensures { self.new ≡ absorbed wanted.now self.old entry }
     {
-        self.nan |= is_bad(entry);
-        let value = counted_value(entry);
-        let n = wanted.len().min(160);
-        for j in 0..n {
-            if wanted[j] == entry.number {
+        self.nan |= entry.is_bad();
+        let value = entry.counted_value();
+        let wanted = &wanted[..wanted.len().min(160)];
+        for (j, number) in wanted.iter().enumerate() {
+            if *number == entry.number {
                 self.values[j] = Some(value);
             }
         }
@@ -73,13 +76,15 @@ impl Gathered {
 pub fn may_matter(lo: u64, hi: u64, entry: CompletedTrial) -> bool
     ensures { result ≡ may_matter lo hi entry }
 {
-    is_bad(entry) || (lo..=hi).contains(&entry.number)
+    entry.is_bad() || (lo..=hi).contains(&entry.number)
 }
 
 // The scan: every entry that may matter, in turn. The range, the wanted numbers and what was gathered before stay three parameters:
-// the last goes on from entry to entry, and the first is looked at far more often than the second.
+// the last goes on from entry to entry, and the first is looked at far more often than the second. `lo` and `hi` are no
+// `RangeInclusive`: one that an iterator has spent holds no number, so the definitions would speak of three things in place of two.
+// `from` is a parameter although callers begin with `Gathered::new()`: what a scan makes of any start is promised too.
 #[tactic(auto, using(crate::proofs::Scans::scans))]
-fn scan<I: Iterator<Item = CompletedTrial> + Drop>(
+pub fn scan<I: Iterator<Item = CompletedTrial> + Drop>(
     entries: I,
     lo: u64,
     hi: u64,
@@ -99,7 +104,8 @@ fn scan<I: Iterator<Item = CompletedTrial> + Drop>(
     g
 }
 
-// The scan over plain slices, a number and a value for each entry: where one is longer its rest is no entry.
+// The scan over plain slices, a number and a value for each entry: where one is longer its rest is no entry. The sample calls go by `scan`
+// itself; this and the next stand for what they promise.
 pub fn gather_slices(
     numbers: &[u64],
     values: &[f64],

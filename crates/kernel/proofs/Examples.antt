@@ -1,5 +1,5 @@
 -- What the ledger's laws do not see of the kernel, on small inputs: which entry or choice a setting is decoded from, what does not fit, which dimensions N counts, the draws, refusal 11.
--- All by computation.
+-- All by computation. Nothing cites them: each is false after a wrong edit that no law would see.
 use Rattle.std.specs.Prelude.{Option, Some, None, ℤ}
 use mathlib.Core.Path.{◌≡◌, refl}
 use mathlib.Core.Bool.{true, false}

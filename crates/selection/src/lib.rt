@@ -2,7 +2,7 @@
 // `perform_selection`): which row stays, what each slot holds, and which slot is best.
 #![tactic(auto)]
 
-ghost use Rattle.std.specs.Prelude.{◌≡◌, ◌≤◌, length};
+ghost use Rattle.std.specs.Prelude.{◌≡◌, ◌≤◌, length, take};
 ghost use Rattle.selection.specs.Select.{judged, survivor_of, selected, stored};
 ghost use Rattle.selection.specs.Best.{values, best_slot, least_value};
 ghost use Rattle.selection.specs.Size.{size_of};
@@ -22,30 +22,33 @@ pub fn population_size(user: Option<u64>, n_continuous: usize) -> usize
     }
 }
 
-// Of two lent rows the one that stays: the trial's where its result is at most the parent's.
+// Of two lent rows of n entries the one that stays: the trial's where its result is at most the parent's. A part of a lent slice
+// is handed back, which document 01 asks of this leaf.
 #[tactic(auto, unfolding(crate::specs::Select::judged))]
 pub fn judge<'a>(
     parent: &'a [f64],
     trial: &'a [f64],
+    n: usize,
     parent_value: f64,
     trial_value: f64,
 ) -> &'a [f64]
-    ensures { result.now ≡ judged parent.now trial.now parent_value trial_value }
+    requires { (n ≤ length parent.now) × (n ≤ length trial.now) }
+    ensures { result.now ≡ take n (judged parent.now trial.now parent_value trial_value) }
 {
     if trial_value <= parent_value {
-        trial
+        &trial[..n]
     } else {
-        parent
+        &parent[..n]
     }
 }
 
 // What a slot holds after its trial's result: a result at most the parent's replaces vector, choices and value.
-// Document 01 asks for a leaf that hands back the row, so the vector goes by `judge`.
+// The vector goes by `judge`, since document 01 asks for a leaf that hands back the row; `judge` knows no choices and no value.
 #[tactic(auto, unfolding(crate::specs::Select::judged, crate::specs::Select::survivor_of))]
 fn survivor(parent: &Member, trial: &Candidate, res: f64) -> Member
     ensures { result ≡ survivor_of parent.now trial.now res }
 {
-    let row = judge(&parent.candidate.x, &trial.x, parent.value, res);
+    let row = judge(&parent.candidate.x, &trial.x, 16, parent.value, res);
     let mut stays = *parent;
     stays.candidate.x.copy_from_slice(row);
     if res <= parent.value {
@@ -55,7 +58,7 @@ fn survivor(parent: &Member, trial: &Candidate, res: f64) -> Member
     stays
 }
 
-// A slot that is unused.
+// A slot that is unused. It is no method of `Member`, which is of evolution, where no slot is unused.
 pub fn blank_member() -> Member
     ensures { result ≡ blank_member }
 {
@@ -66,23 +69,21 @@ pub fn blank_member() -> Member
 }
 
 // The first closing stores candidates and results.
-#[tactic(auto, using(crate::proofs::Slots::stores))]
 pub fn initialize_population(candidates: &[Candidate], results: &[f64]) -> [Member; 160]
     requires { length candidates.now ≤ 160 }
     ensures { result ≡ members_rec (stored candidates.now results.now) }
 {
     let mut population = [blank_member(); 160];
-    for i in 0..usize::min(candidates.len(), results.len()) {
+    for (i, (candidate, value)) in candidates.iter().zip(results).enumerate() {
         population[i] = Member {
-            candidate: candidates[i],
-            value: results[i],
+            candidate: *candidate,
+            value: *value,
         };
     }
     population
 }
 
 // A later closing: each slot's result against its parent's.
-#[tactic(auto, using(crate::proofs::Slots::selects))]
 pub fn perform_selection(
     parents: &[Member],
     candidates: &[Candidate],
@@ -91,15 +92,14 @@ pub fn perform_selection(
     requires { length parents.now ≤ 160 }
     ensures { result ≡ members_rec (selected parents.now candidates.now results.now) }
 {
-    let n = usize::min(parents.len(), candidates.len());
     let mut population = [blank_member(); 160];
-    for i in 0..usize::min(n, results.len()) {
-        population[i] = survivor(&parents[i], &candidates[i], results[i]);
+    for (i, ((parent, trial), res)) in parents.iter().zip(candidates).zip(results).enumerate() {
+        population[i] = survivor(parent, trial, *res);
     }
     population
 }
 
-// The first least value's slot; 0 if all are +infinity.
+// The first least value's slot; 0 if all are +infinity. By hand: in std's order of all doubles, `total_cmp`, -0.0 is below 0.0.
 #[tactic(auto, using(crate::proofs::Running::best_more, crate::proofs::Running::best_all), unfolding(crate::specs::Best::best_slot))]
 pub fn best_slot(parents: &[Member]) -> usize
     ensures { result ≡ best_slot (values parents.now) }

@@ -13,7 +13,8 @@ use distribution::{DimIdx, ParamValue, Refusal};
 use evolution::Member;
 use state::State;
 
-// The first n values are those of the slots. Where `look` has no slot the others are 0, as C's `DeLook` is promised them.
+// The first n values are those of the slots. Where `look` has no slot the others are 0, as C's `DeLook` is promised them: with the values
+// in an option of their own, the edge and two programs would say the zeros.
 #[derive(Clone, Copy)]
 pub struct Looked {
     pub look: Result<Option<usize>, Refusal>,
@@ -58,8 +59,7 @@ pub fn look(state: &State) -> Looked
     if !state.is_sound() {
         return bare_look(Err(Refusal::StateNotSound));
     }
-    let unclosed = state.closed == 0;
-    if unclosed {
+    if state.closed == 0 {
         return bare_look(Ok(None));
     }
     let parents = state.parents();

@@ -3,14 +3,13 @@ use Prim.Native.Nat.{ℕ, zero, suc, ◌+◌, ◌-◌, ◌≤◌, ◌<◌}
 use native.Mathlib.Omega.{arith}
 use native.Mathlib.Nat.{not-suc-le-zero, le_of_suc-le-suc}
 use mathlib.Core.Path.{◌≡◌, refl, sym, ap, ap₂, ◌∙◌}
-use mathlib.Core.Bool.{Bool, ◌&&◌}
+use mathlib.Core.Bool.{Bool, ◌&&◌, and_assoc}
 use mathlib.Core.List.{List, [], ◌∷◌, ◌++◌, map}
 use borrow.Author.Tests.{le-ltb, ne_eqb}
 use lib.Dec.{eqb, ltb}
-use lib.Ieee.{Float, nan, inf, fin}
-use lib.ListN.{length, get_or, set, take, drop, replicate, length-map}
-use lib.Seq.{take-length}
-use Rattle.rng_util.specs.Many.{pad_to, listed}
+use lib.Ieee.{Float}
+use lib.ListN.{length, get_or, set, take, replicate, length-map}
+use Rattle.rng_util.specs.Many.{pad_to}
 use Rattle.distribution.specs.Validate.{is_finite}
 use Rattle.distribution.specs.declared.DimensionInfo.{DimensionInfo}
 use Rattle.distribution.specs.Dims.{choices_of, no_dim}
@@ -23,14 +22,13 @@ use Rattle.kernel.specs.Fits.{is_zero, entries_fit, choice_limit, choices_fit, f
 use Rattle.state.specs.Blank.{is_blank_candidate}
 use Rattle.state.specs.Places.{places_fit, choices_below, limits_of}
 use Rattle.state.specs.declared.places.Limits.{Limits}
-use Rattle.state.proofs.Loops.{and_assoc}
 use Rattle.state.proofs.Measured.{Sized}
 
 entries-are : (n : ℕ) (xs : List Float) → n ≤ length xs → places_fit is_finite is_zero n xs ≡ entries_fit n xs
 unfolding places_fit entries_fit all
 entries-are zero xs h = refl
 entries-are (suc n) [] h = absurd (not-suc-le-zero h)
-entries-are (suc n) (x ∷ xs) h = sym (and_assoc (is_finite x) _ _) ∙ ap (λ (b : Bool). is_finite x && b) (entries-are n xs (le_of_suc-le-suc h))
+entries-are (suc n) (x ∷ xs) h = and_assoc (is_finite x) _ _ ∙ ap (λ (b : Bool). is_finite x && b) (entries-are n xs (le_of_suc-le-suc h))
 
 -- below 1 is 0
 below_one : (c : ℕ) → ltb c 1 ≡ eqb 0 c

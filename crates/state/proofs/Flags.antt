@@ -2,23 +2,11 @@
 use Rattle.std.specs.Prelude.{Some, slice_get}
 use Prim.Native.Nat.{ℕ, zero, suc}
 use mathlib.Core.Path.{◌≡◌, refl, sym, ◌∙◌}
-use mathlib.Core.Bool.{Bool, true, false, not, ◌&&◌, true≢false}
+use mathlib.Core.Bool.{Bool, true, false, ◌&&◌, true≢false}
 use mathlib.Core.List.{List, [], ◌∷◌}
+use Rattle.std.proofs.lemmas.Bool.{and_parts}
 use Rattle.ledger.specs.Words.{every}
 use Rattle.ledger.proofs.Lists.{none≢some, some_inj}
-
--- `if !t`, by which arm was taken
-pub failed : (t : Bool) → not t ≡ true → t ≡ false
-failed true e = absurd (true≢false (sym e))
-failed false e = refl
-
-pub passed : (t : Bool) → not t ≡ false → t ≡ true
-passed true e = refl
-passed false e = absurd (true≢false e)
-
-pub true-and : (a b : Bool) → (a && b) ≡ true → (a ≡ true) × (b ≡ true)
-true-and true b e = (refl, e)
-true-and false b e = absurd (true≢false (sym e))
 
 pub and-true : {a b : Bool} → a ≡ true → b ≡ true → (a && b) ≡ true
 and-true p q = rw (p, q)
@@ -32,8 +20,8 @@ bool-ext false true f g = absurd (true≢false (sym (g refl)))
 -- the test at place i of those that all pass
 pub every-at : (bs : List Bool) → every bs ≡ true → (i : ℕ) (b : Bool) → slice_get bs i ≡ Some b → b ≡ true
 every-at [] t i b e = absurd (none≢some e)
-every-at (a ∷ bs) t zero b e = sym (some_inj e) ∙ (true-and a (every bs) t).0
-every-at (a ∷ bs) t (suc i) b e = every-at bs (true-and a (every bs) t).1 i b e
+every-at (a ∷ bs) t zero b e = sym (some_inj e) ∙ (and_parts a (every bs) t).0
+every-at (a ∷ bs) t (suc i) b e = every-at bs (and_parts a (every bs) t).1 i b e
 
 -- five tests, as the code joins them
 pub five : (a b c d e : Bool) → (a && b && c && d && e) ≡ true → (a ≡ true) × (b ≡ true) × (c ≡ true) × (d ≡ true) × (e ≡ true)

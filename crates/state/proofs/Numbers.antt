@@ -14,7 +14,8 @@ use Rattle.ledger.specs.Words.{has, differing}
 use Rattle.state.specs.Blank.{blank_trial}
 use Rattle.state.specs.Places.{numbers_of, increasing}
 use Rattle.state.specs.declared.TrialProgress.{TrialProgress}
-use Rattle.state.proofs.Flags.{true-and, and-true}
+use Rattle.std.proofs.lemmas.Bool.{and_parts}
+use Rattle.state.proofs.Flags.{and-true}
 
 -- ---- numbers that increase
 
@@ -48,21 +49,21 @@ below_none : (k : ℕ) (ns : List ℕ) → increasing (k ∷ ns) ≡ true → ha
 unfolding increasing has
 below_none k [] e = refl
 below_none k (m ∷ ns) e =
-    let a = true-and (ltb k m) (increasing (m ∷ ns)) e in
+    let a = and_parts (ltb k m) (increasing (m ∷ ns)) e in
     let l : k < m = ltb-true k m a.0 in
     rw (ne_eqb m k (λ q. omega arith)) (below_none k ns (skip ns a.1))
   where
     skip : (ns : List ℕ) → increasing (m ∷ ns) ≡ true → increasing (k ∷ ns) ≡ true
     skip [] q = refl
     skip (j ∷ js) q =
-        let b = true-and (ltb m j) (increasing (j ∷ js)) q in
-        and-true (lt-ltb k j (omega (arith, ltb-true k m (true-and (ltb k m) _ e).0, ltb-true m j b.0))) b.1
+        let b = and_parts (ltb m j) (increasing (j ∷ js)) q in
+        and-true (lt-ltb k j (omega (arith, ltb-true k m (and_parts (ltb k m) _ e).0, ltb-true m j b.0))) b.1
 
 pub rising_differ : (ns : List ℕ) → increasing ns ≡ true → differing ns ≡ true
 unfolding increasing differing
 rising_differ [] e = refl
 rising_differ (n ∷ []) e = unfold has in refl
-rising_differ (n ∷ m ∷ ns) e = and-true (ap not (below_none n (m ∷ ns) e)) (rising_differ (m ∷ ns) (true-and (ltb n m) (increasing (m ∷ ns)) e).1)
+rising_differ (n ∷ m ∷ ns) e = and-true (ap not (below_none n (m ∷ ns) e)) (rising_differ (m ∷ ns) (and_parts (ltb n m) (increasing (m ∷ ns)) e).1)
 
 -- ---- a number among the trials'
 

@@ -22,7 +22,8 @@ use Rattle.state.specs.View.{trial_of, parent_of, candidate_count, parent_count,
 use Rattle.state.specs.Places.{places_fit, passes, next_fits, member_fits, numbers_of, counts_sound}
 use Rattle.state.specs.declared.State.{State}
 use Rattle.state.specs.declared.TrialProgress.{TrialProgress}
-use Rattle.state.proofs.Flags.{true-and, and-true}
+use Rattle.std.proofs.lemmas.Bool.{and_parts}
+use Rattle.state.proofs.Flags.{and-true}
 
 abbrev pub parents_of : State → List (Parent Candidate)
 parents_of s = map parent_of (take (parent_count s) s.parents)
@@ -71,7 +72,7 @@ empty_of (x ∷ xs) e = absurd (true≢false (sym e))
 
 pub split_places : {A : Type 0} (right blank : A → Bool) (n : ℕ) (xs : List A) → places_fit right blank n xs ≡ true → (all right (take n xs) ≡ true) × (all blank (drop n xs) ≡ true)
 unfolding places_fit
-split_places right blank n xs e = true-and (all right (take n xs)) (all blank (drop n xs)) e
+split_places right blank n xs e = and_parts (all right (take n xs)) (all blank (drop n xs)) e
 
 pub join-places : {A : Type 0} (right blank : A → Bool) (n : ℕ) (xs : List A) → all right (take n xs) ≡ true → all blank (drop n xs) ≡ true → places_fit right blank n xs ≡ true
 unfolding places_fit
@@ -81,7 +82,7 @@ join-places right blank n xs p q = and-true p q
 pub split-parents : (ds : List DimensionInfo) (ms : List Member) → all (member_fits ds) ms ≡ true
     → (all (λ (p : Parent Candidate). fits ds p.candidate) (map parent_of ms) ≡ true) × (all (λ (p : Parent Candidate). is_number p.value) (map parent_of ms) ≡ true)
 split-parents ds ms e =
-    let r = true-and _ _ (sym (all_both (λ (m : Member). fits ds m.candidate) (λ (m : Member). is_number m.value) ms) ∙ e) in
+    let r = and_parts _ _ (sym (all_both (λ (m : Member). fits ds m.candidate) (λ (m : Member). is_number m.value) ms) ∙ e) in
     (all_map (λ (p : Parent Candidate). fits ds p.candidate) parent_of ms ∙ r.0, all_map (λ (p : Parent Candidate). is_number p.value) parent_of ms ∙ r.1)
 
 pub join-parents : (ds : List DimensionInfo) (ms : List Member) → all (λ (p : Parent Candidate). fits ds p.candidate) (map parent_of ms) ≡ true → all (λ (p : Parent Candidate). is_number p.value) (map parent_of ms) ≡ true → all (member_fits ds) ms ≡ true

@@ -32,7 +32,7 @@ use Rattle.state.specs.View.{trial_of, progress_of, parent_of, size_in, has_size
 use Rattle.state.specs.Sound.{clean_test, sound_state, Few}
 use Rattle.state.specs.declared.State.{State}
 use Rattle.state.specs.declared.TrialProgress.{TrialProgress}
-use Rattle.state.proofs.Flags.{true-and}
+use Rattle.std.proofs.lemmas.Bool.{and_parts}
 use Rattle.state.proofs.Floats.{zero-true}
 use Rattle.state.proofs.Laid.{back}
 use Rattle.state.proofs.Measured.{Sized, Measured, arrays-of}
@@ -44,14 +44,14 @@ module _ {A : Type 0} (p : A → Bool) (b : A) where
   same-all : (xs : List A) → ((a : A) → p a ≡ true → a ≡ b) → all p xs ≡ true → xs ≡ replicate (length xs) b
   unfolding all
   same-all [] h e = refl
-  same-all (x ∷ xs) h e = let r = true-and (p x) (all p xs) e in λ i. h x r.0 i ∷ same-all xs h r.1 i
+  same-all (x ∷ xs) h e = let r = and_parts (p x) (all p xs) e in λ i. h x r.0 i ∷ same-all xs h r.1 i
 
   -- the same of elements of which more is known
   same_known : (P : A → Type 0) (xs : List A) → All P xs → ((a : A) → P a → p a ≡ true → a ≡ b) → all p xs ≡ true → xs ≡ replicate (length xs) b
   unfolding all
   same_known P [] k h e = refl
   same_known P (x ∷ xs) k h e =
-      let r = true-and (p x) (all p xs) e in λ i. h x (k x (Memᴰ.head refl)) r.0 i ∷ same_known P xs (λ a m. k a (Memᴰ.tail m)) h r.1 i
+      let r = and_parts (p x) (all p xs) e in λ i. h x (k x (Memᴰ.head refl)) r.0 i ∷ same_known P xs (λ a m. k a (Memᴰ.tail m)) h r.1 i
 
 known-drop : {A : Type 0} (P : A → Type 0) (n : ℕ) (xs : List A) → All P xs → All P (drop n xs)
 known-drop P zero xs k = k
@@ -59,7 +59,7 @@ known-drop P (suc n) [] k = k
 known-drop P (suc n) (x ∷ xs) k = known-drop P n xs (λ a m. k a (Memᴰ.tail m))
 
 blank-trial : (t : TrialProgress) → is_blank_trial t ≡ true → t ≡ blank_trial
-blank-trial t e = let r = true-and (eqb t.number 0) (eqb t.next_dim 0) e in λ i. record { number = eqb-true t.number 0 r.0 i; next_dim = eqb-true t.next_dim 0 r.1 i }
+blank-trial t e = let r = and_parts (eqb t.number 0) (eqb t.next_dim 0) e in λ i. record { number = eqb-true t.number 0 r.0 i; next_dim = eqb-true t.next_dim 0 r.1 i }
 
 blank-distribution : (d : Distribution) → is_blank_distribution d ≡ true → d ≡ Categorical (record { n_choices = 0 })
 blank-distribution (FloatD f) e = absurd (true≢false (sym e))
@@ -72,14 +72,14 @@ blank-dim d e = λ i. record { distribution = blank-distribution d.distribution 
 blank-candidate : (c : Candidate) → Sized c → is_blank_candidate c ≡ true → c ≡ blank_candidate
 unfolding fits entries_fit choices_fit continuous_dims
 blank-candidate c z e =
-    let r = true-and (all is_zero c.x) (all (eqb 0) c.choices) e in
+    let r = and_parts (all is_zero c.x) (all (eqb 0) c.choices) e in
     let x : c.x ≡ replicate 16 zero_f = same-all is_zero zero_f c.x zero-true r.0 ∙ ap (λ (n : ℕ). replicate n zero_f) z.x in
     let y : c.choices ≡ replicate 16 0 = same-all (eqb 0) 0 c.choices (λ k q. sym (eqb-true 0 k q)) r.1 ∙ ap (λ (n : ℕ). replicate n 0) z.choices in
     λ i. record { x = x i; choices = y i }
 
 blank-member : (m : Member) → Sized m.candidate → is_blank_member m ≡ true → m ≡ blank_member
 blank-member m z e =
-    let r = true-and (is_blank_candidate m.candidate) _ e in λ i. record { candidate = blank-candidate m.candidate z r.0 i; value = zero-true m.value r.1 i }
+    let r = and_parts (is_blank_candidate m.candidate) _ e in λ i. record { candidate = blank-candidate m.candidate z r.0 i; value = zero-true m.value r.1 i }
 
 -- ---- an array whose unused places are blank
 
@@ -134,18 +134,18 @@ again s m f k = λ i.
 module _ (s : State) (e : sound_state s ≡ true) where
   pub setup-valid : is_ok (setup_verdict s.setup) ≡ true
   unfolding sound_state
-  setup-valid = (true-and (is_ok (setup_verdict s.setup)) _ (true-and (clean_test s) _ e).1).0
+  setup-valid = (and_parts (is_ok (setup_verdict s.setup)) _ (and_parts (clean_test s) _ e).1).0
 
   pub view-sound : Laws de → Sound de s.setup (view s)
   unfolding sound_state
   view-sound L =
-      let r = true-and (is_ok (setup_verdict s.setup)) (sound_test de s.setup (view s)) (true-and (clean_test s) _ e).1 in
+      let r = and_parts (is_ok (setup_verdict s.setup)) (sound_test de s.setup (view s)) (and_parts (clean_test s) _ e).1 in
       (sound-test de L s.setup (view s)).0 (subst T (sym r.1) tt)
 
   module _ (m : Measured s) where
     clean : Clean s (arrays-of m)
     unfolding sound_state
-    clean = clean_of s (arrays-of m) (true-and (clean_test s) _ e).0
+    clean = clean_of s (arrays-of m) (and_parts (clean_test s) _ e).0
 
     pub sound-few : Few s
     sound-few = few-of s clean.few_dims (of-sound s (arrays-of m) e).counts

@@ -36,7 +36,8 @@ use Rattle.state.specs.View.{parent_of, candidate_count, parent_count, dims_of, 
 use Rattle.state.specs.Places.{places_fit, passes, next_fits, member_fits, numbers_of, limits_of, counts_sound}
 use Rattle.state.specs.declared.State.{State}
 use Rattle.state.specs.declared.places.Limits.{Limits}
-use Rattle.state.proofs.Flags.{true-and, five, all-five}
+use Rattle.std.proofs.lemmas.Bool.{and_parts}
+use Rattle.state.proofs.Flags.{five, all-five}
 use Rattle.state.proofs.Parts.{Parts, parents_of, split_places}
 use Rattle.state.proofs.Whole.{count_test, few-of}
 
@@ -54,8 +55,8 @@ good-few (Categorical k) g = g.few
 all-few : (ds : List DimensionInfo) → all passes ds ≡ true → (i : ℕ) → i < length ds → choices_of (get_or ds i no_dim) ≤ 65535
 unfolding all
 all-few [] e i h = absurd (not-suc-le-zero h)
-all-few (d ∷ ds) e zero h = good-few d.distribution (judged-good d.distribution (none_of (judged d.distribution) (true-and (passes d) (all passes ds) e).0))
-all-few (d ∷ ds) e (suc i) h = all-few ds (true-and (passes d) (all passes ds) e).1 i (le_of_suc-le-suc h)
+all-few (d ∷ ds) e zero h = good-few d.distribution (judged-good d.distribution (none_of (judged d.distribution) (and_parts (passes d) (all passes ds) e).0))
+all-few (d ∷ ds) e (suc i) h = all-few ds (and_parts (passes d) (all passes ds) e).1 i (le_of_suc-le-suc h)
 
 pub dims-fit : (s : State) → places_fit passes is_blank_dim s.n_dims s.dims ≡ true → s.n_dims ≤ 16 → (length (dims_of s) ≤ 16) × FewChoices (dims_of s)
 unfolding FewChoices
@@ -76,8 +77,8 @@ numbers-of : (ds : List DimensionInfo) (ms : List Member) → all (member_fits d
 unfolding all
 numbers-of ds [] e a m = elim m [ ]
 numbers-of ds (m ∷ ms) e a (Memᴰ.head q) =
-    subst (λ (v : Float). v ≢ nan) (sym q) (number_of m.value (true-and (fits ds m.candidate) _ (true-and (member_fits ds m) (all (member_fits ds) ms) e).0).1)
-numbers-of ds (m ∷ ms) e a (Memᴰ.tail q) = numbers-of ds ms (true-and (member_fits ds m) (all (member_fits ds) ms) e).1 a q
+    subst (λ (v : Float). v ≢ nan) (sym q) (number_of m.value (and_parts (fits ds m.candidate) _ (and_parts (member_fits ds m) (all (member_fits ds) ms) e).0).1)
+numbers-of ds (m ∷ ms) e a (Memᴰ.tail q) = numbers-of ds ms (and_parts (member_fits ds m) (all (member_fits ds) ms) e).1 a q
 
 pub best-are : (ds : List DimensionInfo) (n : ℕ) (ms : List Member) → places_fit (member_fits ds) is_blank_member n ms ≡ true → best_slot (values (take n ms)) ≡ best_of (Plain.values de (map parent_of (take n ms)))
 best-are ds n ms e =

@@ -26,7 +26,8 @@ use Rattle.state.specs.View.{trial_of, parent_of, size_in, dims_of, candidate_co
 use Rattle.state.specs.Places.{passes, next_fits, member_fits, discovering_counts, running_counts, counts_sound}
 use Rattle.state.specs.Sound.{clean_tests, clean_test, sound_state, Few}
 use Rattle.state.specs.declared.State.{State}
-use Rattle.state.proofs.Flags.{true-and, and-true, bool-ext, every-at, five, all-five}
+use Rattle.std.proofs.lemmas.Bool.{and_parts}
+use Rattle.state.proofs.Flags.{and-true, bool-ext, every-at, five, all-five}
 use Rattle.state.proofs.Measured.{Arrays}
 use Rattle.state.proofs.Parts.{Parts, parents_of, all_map, numbers-are, none_of, empty_of, split_places, join-places, split-parents, join-parents}
 use Rattle.state.proofs.Sizes.{size_few}
@@ -46,7 +47,7 @@ count_test s = counts_sound (continuous_count (dims_of s)) s
 
 split-counts : (s : State) → count_test s ≡ true → (is_ok (setup_verdict s.setup) ≡ true) × (phase_counts s s.discovered ≡ true)
 unfolding counts_sound
-split-counts s e = true-and (is_ok (setup_verdict s.setup)) _ e
+split-counts s e = and_parts (is_ok (setup_verdict s.setup)) _ e
 
 join-counts : (s : State) (d : Bool) → s.discovered ≡ d → is_ok (setup_verdict s.setup) ≡ true → phase_counts s d ≡ true → count_test s ≡ true
 unfolding counts_sound
@@ -274,8 +275,8 @@ module _ (s : State) (m : Arrays s) where
   pub of-sound : sound_state s ≡ true → Parts s
   unfolding sound_state sound_test view
   of-sound e =
-      let a = true-and (clean_test s) _ e in
-      let b = true-and (is_ok (setup_verdict s.setup)) _ a.1 in
+      let a = and_parts (clean_test s) _ e in
+      let b = and_parts (is_ok (setup_verdict s.setup)) _ a.1 in
       let t = every-at (sound_tests de s.setup (view s)) b.1 in
       of-phase (clean_of a.0) b.0 (t 0 _ refl) s.discovered refl (t 2 _ refl)
 

@@ -13,7 +13,7 @@ pub mod view;
 
 // An open trial: its number, and the dimension that its next call gives. The i-th one has candidate i.
 #[repr(C)]
-#[derive(Clone, Copy)]
+#[derive(Clone, Copy, PartialEq, Eq)]
 pub struct TrialProgress {
     pub number: u64,
     pub next_dim: usize,
@@ -35,7 +35,8 @@ impl TrialProgress {
 }
 
 // In use are n_dims dimensions, n_trials trials, after discovery n candidates and one for each trial past n, and n
-// parents once a generation has closed. Unused places are as in a fresh state. Arrays with counts: there is no heap.
+// parents once a generation has closed. Unused places are as in a fresh state. Arrays with counts, as document 01 has them: C and a saved
+// file hand in any count, one past the places too, which a `Filled` could not hold; and a state is `Copy`.
 // `discovered` and `n` are no option: C and a saved file hand in any two of them, and a pair that disagrees is not sound.
 #[derive(Clone, Copy)]
 pub struct State {

@@ -18,7 +18,8 @@ fn has_number(trials: &[TrialProgress], number: u64) -> bool
     trials.iter().any(|trial| trial.number == number)
 }
 
-// Each number against those after it: no iterator hands out an item together with what is left.
+// Each number against those after it. No index is counted, and no iterator hands out an item together with what is left: with
+// `enumerate` and `all` the closure would slice from i + 1 on, and ask that i is a place.
 #[tactic(auto, using(crate::proofs::Numbers::differs))]
 fn all_differ(trials: &[TrialProgress]) -> bool
     ensures { result ≡ differing (numbers_of trials.now) }

@@ -1,5 +1,5 @@
 // Place tests: what is in use is right, and what is not is as in a fresh state.
-ghost use Rattle.std.specs.Prelude.{Bool, List, ◌≡◌, ◌&&◌, map, ◌≤◌, eqb, length};
+ghost use Rattle.std.specs.Prelude.{Bool, List, ◌≡◌, ◌&&◌, map, ◌≤◌, length};
 ghost use Rattle.rng_util.specs.Many.{pad_to};
 ghost use Rattle.distribution.specs.Validate.{is_finite};
 ghost use Rattle.distribution.specs.Dims.{choices_of};
@@ -10,9 +10,9 @@ ghost use Rattle.state.specs.Blank.{is_blank_dim, is_blank_trial, is_blank_candi
 ghost use Rattle.state.specs.Places.{Answers, places_fit, passes, limits_of, choices_below, next_fits, member_fits};
 
 use super::TrialProgress;
-use candidates::{Candidate, continuous_place};
-use distribution::validate::{is_finite, validate};
-use distribution::{DimIdx, DimensionInfo, Distribution, choices_of, is_continuous};
+use candidates::{Candidate, continuous_count};
+use distribution::validate::is_finite;
+use distribution::{DimensionInfo, Distribution};
 use evolution::Member;
 
 // What the tests of candidates read of the dimensions, made once: how many are continuous, and what each choice stays
@@ -55,7 +55,7 @@ pub fn places_fit<T, R: Fn(&T) -> bool, B: Fn(&T) -> bool>(
 fn is_zero(v: f64) -> bool
     ensures { result ≡ is_zero v }
 {
-    !v.is_nan() && f64::to_bits(v) == 0
+    std::num::f64_to_bits_with_nan(v) == 0
 }
 
 // n finite entries, and unused ones after them.
@@ -66,13 +66,12 @@ fn entries_fit(x: &[f64], n: usize) -> bool
 }
 
 // Without an early way out, as `all_pass`, which goes through one list and not through two.
-#[tactic(auto, using(crate::proofs::Loops::sweeps))]
 fn choices_fit(choices: &[u16; 16], limits: &[u16; 16]) -> bool
     ensures { result ≡ choices_below choices.now limits.now }
 {
     let mut fit = true;
-    for k in 0..16 {
-        fit &= choices[k] < limits[k];
+    for (choice, limit) in choices.iter().zip(limits) {
+        fit &= choice < limit;
     }
     fit
 }
@@ -108,16 +107,13 @@ pub fn is_blank_member(m: &Member) -> bool
 pub fn passes(d: &DimensionInfo) -> bool
     ensures { result ≡ passes d.now }
 {
-    validate(d.distribution).is_ok()
+    d.distribution.validate().is_ok()
 }
 
 pub fn is_blank_dim(d: &DimensionInfo) -> bool
     ensures { result ≡ is_blank_dim d.now }
 {
-    match d.distribution {
-        Distribution::Categorical(c) => c.n_choices == 0,
-        Distribution::Float(_) | Distribution::Int(_) => false,
-    }
+    matches!(d.distribution, Distribution::Categorical(c) if c.n_choices == 0)
 }
 
 pub fn next_fits(t: &TrialProgress, n_dims: usize) -> bool
@@ -129,7 +125,7 @@ pub fn next_fits(t: &TrialProgress, n_dims: usize) -> bool
 pub fn is_blank_trial(t: &TrialProgress) -> bool
     ensures { result ≡ is_blank_trial t.now }
 {
-    (t.number == 0) & (t.next_dim == 0)
+    *t == TrialProgress::blank()
 }
 
 // What a dimension's choice stays below: 1 where it is continuous, since 0 stands there.
@@ -137,12 +133,14 @@ fn choice_limit(d: &DimensionInfo) -> u16
     requires { choices_of d.now ≤ 65535 }
     ensures { result ≡ choice_limit d.now }
 {
-    if is_continuous(d.distribution) {
-        return 1;
+    match d.distribution {
+        Distribution::Float(_) | Distribution::Int(_) => 1,
+        Distribution::Categorical(c) => c.n_choices as u16,
     }
-    choices_of(d.distribution) as u16
 }
 
+// Three lines here and three in slots' `slot_values`: one function for both would say four clauses of its closure, as `read_rows` of
+// opened does.
 #[tactic(auto, using(crate::proofs::Fitting::limits))]
 fn choice_limits(dims: &[DimensionInfo]) -> [u16; 16]
     requires { (length dims.now ≤ 16) × FewChoices dims.now }
@@ -160,7 +158,8 @@ pub fn limits_of(dims: &[DimensionInfo]) -> Limits
     requires { (length dims.now ≤ 16) × FewChoices dims.now }
     ensures { result ≡ limits_of dims.now }
 {
-    let ci = continuous_place(dims, DimIdx(dims.len()));
-    let choices = choice_limits(dims);
-    Limits { n: ci.0, choices }
+    Limits {
+        n: continuous_count(dims),
+        choices: choice_limits(dims),
+    }
 }

@@ -8,7 +8,7 @@ use evolution::Setup;
 // The most slots.
 const SIZE_LIMIT: u64 = 160;
 
-// NaN, below 0 or above the limit.
+// NaN, below 0 or above the limit. It is not `(0.0..=most).contains(&v)`: where `most` is NaN that answers otherwise than the definition.
 fn is_outside(v: f64, most: f64) -> bool
     ensures { result ≡ outside most v }
 {

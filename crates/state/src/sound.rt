@@ -23,10 +23,10 @@ impl State {
         ensures { result ≡ discovering_counts self.now }
     {
         (self.n == 0)
-            & (self.n_trials == 0)
-            & (self.closed == 0)
-            & (self.idle == 0)
-            & (self.first.is_some() == (1 <= self.n_dims))
+            && (self.n_trials == 0)
+            && (self.closed == 0)
+            && (self.idle == 0)
+            && (self.first.is_some() == (1 <= self.n_dims))
     }
 
     // After it.
@@ -36,10 +36,10 @@ impl State {
         ensures { result ≡ running_counts size self.now }
     {
         (1 <= self.n_dims)
-            & self.first.is_some()
-            & (self.n == size)
-            & (self.n_trials <= size + 64)
-            & (self.idle <= self.closed)
+            && self.first.is_some()
+            && (self.n == size)
+            && (self.n_trials <= size + 64)
+            && (self.idle <= self.closed)
     }
 
     // The set-up and the counts; `n_continuous` of the dimensions are continuous.

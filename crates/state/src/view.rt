@@ -8,7 +8,7 @@ use distribution::DimensionInfo;
 use evolution::Member;
 
 // The first `count` items, all where there are fewer.
-fn first<T>(items: &[T], count: usize) -> &[T]
+pub fn first<T>(items: &[T], count: usize) -> &[T]
     ensures { result.now ≡ take count items.now }
 {
     &items[..count.min(items.len())]
@@ -33,7 +33,8 @@ impl State {
         if self.closed == 0 { 0 } else { self.n }
     }
 
-    // The discovered dimensions.
+    // The discovered dimensions. Lists are lent as slices, here and below. That they are at most 16, 160 and so on is asked by those who need
+    // it: a type with the bound would be made at each call.
     pub fn dims(&self) -> &[DimensionInfo]
         ensures { result.now ≡ dims_of self.now }
     {
