@@ -1,15 +1,16 @@
 -- The wanted numbers lie between the least and the most of them: laws of a fold from the left, one for both. `ask` copies the numbers out.
 use Prim.Native.Nat.{ℕ, zero, suc, ◌+◌, ◌<◌, ◌≤◌, ◌-◌, ◌^◌, min, max}
 use Rattle.std.specs.Prelude.{fold}
-use mathlib.Core.Path.{◌≡◌, ap, ◌∙◌}
-use mathlib.Core.List.{List, [], ◌∷◌}
+use mathlib.Core.Path.{◌≡◌, refl, sym, ap, ◌∙◌}
+use mathlib.Core.List.{List, [], ◌∷◌, ◌++◌}
 use native.Mathlib.Nat.{not-suc-le-zero, le_of_suc-le-suc}
 use native.Mathlib.Omega.{arith}
-use lib.ListN.{length, get_or, set, take, replicate}
-use lib.Seq.{take_at}
-use Rattle.rng_util.proofs.Parts.{listed-length, pad-listed_none, pad-listed_more}
+use native.Mathlib.Numerals.{add-one}
+use lib.ListN.{length, get_or}
+use Rattle.rng_util.specs.Many.{listed}
+use Rattle.rng_util.proofs.Parts.{listed-last, listed-length}
 use Rattle.state.specs.declared.TrialProgress.{TrialProgress}
-use Rattle.de.specs.Ask.{least_of, most_of, number_at, first_numbers, numbers_rec, asked_of}
+use Rattle.de.specs.Ask.{least_of, most_of, number_at, first_numbers, asked_of}
 
 least-down : (ns : List ℕ) (m : ℕ) → fold min m ns ≤ m
 least-down [] m = omega arith
@@ -35,24 +36,20 @@ between ns i h = (least-each ns (2 ^ 64 - 1) i h, most-each ns 0 i h)
 
 -- ---- what `ask` returns
 
--- the first k places of the array are the numbers
-pub first_part : (ts : List TrialProgress) (k : ℕ) → take k (numbers_rec (first_numbers ts k)) ≡ first_numbers ts k
-first_part ts k = take_at (first_numbers ts k) _ k (listed-length (number_at ts) k 0)
+-- of no trial, and of one more
+pub numbers-none : (ts : List TrialProgress) → [] ≡ first_numbers ts 0
+unfolding listed
+numbers-none ts = refl
 
--- none of the numbers is copied out, and one more
-pub numbers-none : (ts : List TrialProgress) → replicate 160 0 ≡ numbers_rec (first_numbers ts 0)
-numbers-none ts = pad-listed_none (number_at ts) 160 0
+pub numbers-more : (ts : List TrialProgress) (i n : ℕ) (ns : List ℕ) → n ≡ number_at ts i → ns ≡ first_numbers ts i → ns ++ (n ∷ []) ≡ first_numbers ts (i + 1)
+numbers-more ts i n ns e f =
+    let last : n ≡ number_at ts (0 + i) = e ∙ ap (number_at ts) (omega arith) in
+    (λ t. f t ++ (last t ∷ [])) ∙ sym (listed-last (number_at ts) i 0) ∙ ap (first_numbers ts) (sym (add-one i))
 
-pub numbers-more : (ts : List TrialProgress) (i : ℕ) (ns : List ℕ) (n : ℕ) → i < 160 → n ≡ number_at ts i → ns ≡ numbers_rec (first_numbers ts i) → set ns i n ≡ numbers_rec (first_numbers ts (i + 1))
-numbers-more ts i ns n = pad-listed_more (number_at ts) 160 0 i ns n
+-- so there is room for the next
+pub numbers-few : (ts : List TrialProgress) (i : ℕ) (ns : List ℕ) → ns ≡ first_numbers ts i → length ns ≡ i
+numbers-few ts i ns e = ap length e ∙ listed-length (number_at ts) i 0
 
-pub asked_is : (ts : List TrialProgress) (k K lo hi : ℕ) (numbers : List ℕ) → k ≡ K → numbers ≡ numbers_rec (first_numbers ts k) → lo ≡ least_of (take k numbers) → hi ≡ most_of (take k numbers)
-    → record { lo = lo; hi = hi; numbers = numbers } ≡ asked_of (first_numbers ts K)
+pub asked_is : (ns : List ℕ) (a b : List ℕ) (lo hi : ℕ) → a ≡ ns → b ≡ ns → lo ≡ least_of a → hi ≡ most_of b → record { lo = lo; hi = hi; numbers = ns } ≡ asked_of ns
 unfolding asked_of
-asked_is ts k K lo hi numbers e f g h =
-    rw (← e)
-    (let l : lo ≡ least_of (first_numbers ts k) = g ∙ ap (λ (xs : List ℕ). least_of (take k xs)) f ∙ ap least_of (first_part ts k) in
-    let m : hi ≡ most_of (first_numbers ts k) = h ∙ ap (λ (xs : List ℕ). most_of (take k xs)) f ∙ ap most_of (first_part ts k) in
-    λ i. record { lo = l i; hi = m i; numbers = f i })
-
-pub ruleset asking = (numbers-none, numbers-more, asked_is)
+asked_is ns a b lo hi p q l m = λ i. record { lo = (l ∙ ap least_of p) i; hi = (m ∙ ap most_of q) i; numbers = ns }

@@ -35,7 +35,7 @@ use Rattle.state.specs.Setup.{setup_verdict}
 use Rattle.state.specs.Sound.{clean_test, sound_state}
 use Rattle.state.specs.View.{size_in, size_number, view, laid}
 use Rattle.state.specs.declared.State.{State}
-use Rattle.state.proofs.Flags.{true-and}
+use Rattle.std.proofs.lemmas.Bool.{and_parts}
 use Rattle.state.proofs.Laid.{slots-few}
 use Rattle.state.proofs.Tidy.{setup-valid, view-sound}
 use Rattle.de.specs.Ceiling.{ceiling_for, most_draws}
@@ -132,7 +132,7 @@ view-dims s = omega (arith, length-take s.n_dims s.dims)
 
 few_dims : (s : State) → sound_state s ≡ true → s.n_dims ≤ 16
 unfolding sound_state clean_test
-few_dims s e = leb-true s.n_dims 16 (true-and (leb s.n_dims 16) _ (true-and (clean_test s) _ e).0).0
+few_dims s e = leb-true s.n_dims 16 (and_parts (leb s.n_dims 16) _ (and_parts (clean_test s) _ e).0).0
 
 -- ---- of every call
 

@@ -1,11 +1,12 @@
 -- The ceiling for callers, case by case: by N and D alone, whatever the call does.
-use Prim.Native.Nat.{ℕ, ◌+◌, ◌≤◌, ◌<◌}
+use Prim.Native.Nat.{ℕ, ◌+◌, ◌*◌, ◌≤◌, ◌<◌}
 use native.Mathlib.Nat.{mul-le-mul}
 use native.Mathlib.Omega.{arith}
 use mathlib.Core.Path.{◌≡◌, refl}
 use mathlib.Core.Bool.{Bool, true, false, ◌&&◌, cond}
 use borrow.Author.Tests.{leb-true, lt-leb, le-leb, eq-eqb, ne_eqb}
 use lib.Dec.{eqb, leb}
+use Rattle.evolution.specs.Select.{index_count}
 use Rattle.evolution.specs.declared.DEStrategy.{DEStrategy}
 use Rattle.evolution.specs.declared.DEStrategy.TheVariants.{Rand1, Best1, CurrentToBest1}
 use Rattle.kernel.specs.Ceiling.{per_slot, generation_ceiling}
@@ -15,6 +16,19 @@ pub slot-few : (q : DEStrategy) → per_slot q ≤ 3072
 slot-few Rand1 = omega arith
 slot-few Best1 = omega arith
 slot-few CurrentToBest1 = omega arith
+
+-- 1,024 draws for each index
+pub slot-is : (q : DEStrategy) → 1024 * index_count q ≡ per_slot q
+slot-is Rand1 = refl
+slot-is Best1 = refl
+slot-is CurrentToBest1 = refl
+
+pub indices-few : (q : DEStrategy) → index_count q ≤ 3
+indices-few Rand1 = omega arith
+indices-few Best1 = omega arith
+indices-few CurrentToBest1 = omega arith
+
+pub ruleset slots = (slot-is, indices-few)
 
 module _ (q : DEStrategy) (N D : ℕ) where
   pub no_slots : 160 < N → 0 ≡ ceiling_for q N D

@@ -12,3 +12,4 @@ pub mod DrawCeiling
 pub mod Ceilings
 pub mod CallCeiling
 pub mod CeilingMet
+pub mod Over

@@ -26,7 +26,7 @@ use Rattle.ledger.specs.Sample.{discovers, outcome}
 use Rattle.ledger.proofs.Lists.{none≢some}
 use Rattle.ledger.proofs.Trials.{place-in}
 use Rattle.kernel.specs.De.{de}
-use Rattle.state.specs.Sound.{sound_state, Few}
+use Rattle.state.specs.Sound.{sound_state}
 use Rattle.state.specs.View.{view, laid, size_in}
 use Rattle.state.specs.declared.State.{State}
 use Rattle.state.proofs.Tidy as Tidy
@@ -97,9 +97,6 @@ module _ (s : State) (g : Gathered) (h : Handed s g) (e : sound_state s ≡ true
 
   is : s ≡ laid S m
   is = Tidy.is-laid s e h.arrays
-
-  pub few : Few s
-  few = Tidy.sound-few s e h.arrays
 
   abbrev row : Option (List Float)
   row = row_in s g.values

@@ -1,10 +1,9 @@
 -- The call over a history: what `ask` wants is gathered, and the call on what is gathered is the call on the history, for every state, sound or not.
 use Prim.Native.Nat.{ℕ}
-use mathlib.Core.Path.{◌≡◌, refl, sym, ap, subst, ◌∙◌}
+use mathlib.Core.Path.{◌≡◌, refl, sym, subst, ◌∙◌}
 use mathlib.Core.Bool.{Bool, true, false}
 use mathlib.Core.List.{List}
 use Rattle.distribution.specs.declared.Distribution.{Distribution}
-use lib.ListN.{take}
 use Rattle.history.specs.Scan.{nothing, gathered}
 use Rattle.history.specs.declared.CompletedTrial.{CompletedTrial}
 use Rattle.history.specs.declared.Gathered.{Gathered}
@@ -18,19 +17,17 @@ use Rattle.de.specs.Gathered.{sampled_on, row_in}
 use Rattle.de.specs.Sample.{sample_of}
 use Rattle.de.specs.Whole.{Numbers}
 use Rattle.de.specs.declared.ask.Asked.{Asked}
-use Rattle.de.proofs.Asking.{first_part}
 use Rattle.de.proofs.Gather.{gathered-call, gathered-numbers}
 
 module _ (s : State) (mm : Measured s) (h : List CompletedTrial) (q : Asked) (eq : q ≡ asked_of (first_numbers s.trials (wanted_count s.discovered s.n s.n_trials)))
-    (k : ℕ) (ek : k ≡ wanted_count s.discovered s.n s.n_trials) (from : Gathered) (ef : from ≡ nothing) (g : Gathered) (eg : g ≡ gathered q.lo q.hi (take k q.numbers) h from) where
+    (wanted : List ℕ) (ew : wanted ≡ q.numbers) (from : Gathered) (ef : from ≡ nothing) (g : Gathered) (eg : g ≡ gathered q.lo q.hi wanted h from) where
   abbrev ns : List ℕ
   ns = first_numbers s.trials (wanted_count s.discovered s.n s.n_trials)
 
   whole : gathered (least_of ns) (most_of ns) ns h nothing ≡ g
   unfolding asked_of
   whole =
-      sym (eg ∙ (λ i. gathered (eq i).lo (eq i).hi (take (ek i) (eq i).numbers) h (ef i))
-      ∙ ap (λ (l : List ℕ). gathered (least_of ns) (most_of ns) l h nothing) (first_part s.trials (wanted_count s.discovered s.n s.n_trials)))
+      sym (eg ∙ (λ i. gathered q.lo q.hi (ew i) h (ef i)) ∙ (λ i. gathered (eq i).lo (eq i).hi (eq i).numbers h nothing))
 
   pub numbers : Numbers s g
   numbers e =

@@ -1,6 +1,6 @@
 -- What a call asks of its history before it is scanned: the first N open trials' results, where "at least N trials are assigned".
 use Rattle.std.specs.Prelude.{ℕ, ◌-◌, ◌^◌, min, max, Bool, cond, fold, List, leb, get_or}
-use Rattle.rng_util.specs.Many.{pad_to, listed}
+use Rattle.rng_util.specs.Many.{listed}
 use Rattle.state.specs.Blank.{blank_trial}
 use Rattle.state.specs.declared.TrialProgress.{TrialProgress}
 use Rattle.de.specs.declared.ask.Asked.{Asked}
@@ -16,9 +16,6 @@ number_at ts i = (get_or ts i blank_trial).number
 abbrev pub first_numbers : List TrialProgress → ℕ → List ℕ
 first_numbers ts k = listed (number_at ts) k 0
 
-abbrev pub numbers_rec : List ℕ → List ℕ
-numbers_rec = pad_to 160 0
-
 -- all numbers lie between these two
 abbrev pub least_of : List ℕ → ℕ
 least_of = fold min (2 ^ 64 - 1)
@@ -27,4 +24,4 @@ abbrev pub most_of : List ℕ → ℕ
 most_of = fold max 0
 
 unfoldable pub asked_of : List ℕ → Asked
-asked_of ns = record { lo = least_of ns; hi = most_of ns; numbers = numbers_rec ns }
+asked_of ns = record { lo = least_of ns; hi = most_of ns; numbers = ns }

@@ -1,19 +1,20 @@
 // What a call wants of its history: the results of the first N open trials, if N are open; else only whether a value is NaN.
-ghost use Rattle.std.specs.Prelude.{◌≡◌, ◌≤◌, length, map};
+ghost use Rattle.std.specs.Prelude.{◌≡◌, ◌≤◌};
 ghost use Rattle.de.specs.Ask.{wanted_count, first_numbers, least_of, most_of, asked_of};
 
+use filled::Filled;
 use state::State;
 
-// The wanted numbers, in the first places, and between which numbers they lie.
-#[derive(Clone, Copy)]
+// The wanted numbers, and between which numbers they lie.
+#[derive(Drop)]
 pub struct Asked {
     pub lo: u64,
     pub hi: u64,
-    pub numbers: [u64; 160],
+    pub numbers: Filled<u64, 160>,
 }
 
 // How many results are wanted. A state that is not sound may have any counts: then none are.
-pub(crate) fn wanted_count(state: &State) -> usize
+fn wanted_count(state: &State) -> usize
     ensures is { result ≡ wanted_count state.now.discovered state.now.n state.now.n_trials }
     ensures few { result ≤ 160 }
 {
@@ -24,6 +25,8 @@ pub(crate) fn wanted_count(state: &State) -> usize
     }
 }
 
+// The two by a fold, as the definitions: std's `min` and `max` are options, and of no numbers there are a least and a most here too. Tried,
+// and `returns` stays open: std says `reduce`, and the definition `fold`.
 fn least(numbers: &[u64]) -> u64
     ensures { result ≡ least_of numbers.now }
 {
@@ -37,18 +40,17 @@ fn most(numbers: &[u64]) -> u64
 }
 
 // What the next call of a state wants. No number lies between lo and hi where none is wanted.
-#[tactic(auto, using(crate::proofs::Asking::asking))]
+// Not over a part of the trials: tried, and `returns` stays open, since a lent state does not tell there how many places it has.
 pub fn ask(state: &State) -> Asked
     ensures { result ≡ asked_of (first_numbers state.now.trials (wanted_count state.now.discovered state.now.n state.now.n_trials)) }
 {
-    let n = wanted_count(state);
-    let mut numbers = [0; 160];
-    for i in 0..n {
-        numbers[i] = state.trials[i].number;
+    let mut numbers = Filled::new(0);
+    for i in 0..wanted_count(state) {
+        numbers.push(state.trials[i].number);
     }
     Asked {
-        lo: least(&numbers[..n]),
-        hi: most(&numbers[..n]),
+        lo: least(numbers.as_slice()),
+        hi: most(numbers.as_slice()),
         numbers,
     }
 }

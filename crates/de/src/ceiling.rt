@@ -5,15 +5,12 @@ ghost use Rattle.de.specs.Ceiling.{ceiling_for};
 
 use evolution::DEStrategy;
 
-// 1,024 draws for each index of a slot's mutation. It has the shape of evolution's `index_count` and another meaning.
+// 1,024 draws for each index of a slot's mutation.
+#[tactic(auto, using(crate::proofs::Ceilings::slots))]
 fn per_slot(strategy: DEStrategy) -> u64
     ensures { result ≡ per_slot strategy }
 {
-    match strategy {
-        DEStrategy::Rand1 => 3072,
-        DEStrategy::Best1 => 2048,
-        DEStrategy::CurrentToBest1 => 2048,
-    }
+    1024 * (strategy.index_count() as u64)
 }
 
 // What a sample call draws at most that leaves n slots (0 before discovery has ended) and n_dims dimensions. No sampler has
@@ -22,10 +19,7 @@ fn per_slot(strategy: DEStrategy) -> u64
 pub fn draw_ceiling(n: u64, n_dims: u64, strategy: DEStrategy) -> u64
     ensures { result ≡ ceiling_for strategy n n_dims }
 {
-    if n > 160 {
-        return 0;
-    }
-    if n_dims > 16 {
+    if n > 160 || n_dims > 16 {
         return 0;
     }
     if n == 0 {

@@ -1,5 +1,6 @@
 // The sample call (sampler/de.rs, `sample`): refusals first, then discovery, closing and assignment.
-ghost use Rattle.std.specs.Prelude.{◌≡◌, ◌≤◌, length, OnErr};
+ghost use Rattle.std.specs.Prelude.{List, ◌≡◌, ◌≤◌, length, OnErr};
+ghost use Rattle.std.specs.Iterator.{Drains, IsFinite};
 ghost use Rattle.assignment.specs.Raw.{given_ok};
 ghost use Rattle.assignment.specs.Laid.{laid_accepted};
 ghost use Rattle.de.specs.Answer.{numbered, returned, sampled};
@@ -8,16 +9,17 @@ ghost use Rattle.de.specs.Refusing.{count_refusal, first_refusal};
 ghost use Rattle.de.specs.Sample.{sample_of};
 ghost use Rattle.de.specs.Whole.{Acceptable, Handed};
 ghost use Rattle.history.specs.Scan.{trials_of};
+ghost use Rattle.history.specs.declared.CompletedTrial.{CompletedTrial};
+ghost use Rattle.state.specs.Measured.{Measured};
 
 use crate::Sampled;
-use crate::ask::{ask, wanted_count};
+use crate::ask::ask;
 use assignment::discovery::{discovers, finalize_discovery, sample_discovery};
 use assignment::places::place_of;
 use assignment::sample_active;
 use closing::{close, closes_now};
-use distribution::validate::validate;
 use distribution::{Distribution, ParamValue, Refusal};
-use history::{CompletedTrial, Gathered, gather, gather_slices};
+use history::{CompletedTrial, Gathered, scan};
 use rng_util::Gen;
 use state::State;
 
@@ -42,12 +44,12 @@ fn count_refusal(
     Ok(())
 }
 
-// The first of the refusals 4 to 10.
+// The first of the refusals 4 to 10. It stands apart, with the last of them handed in, since callers have its equation with the definition.
 #[tactic(auto, unfolding(crate::specs::Refusing::first_refusal))]
 pub fn refusal_of(d: Distribution, nan: bool, counts: Result<(), Refusal>) -> Result<(), Refusal>
     ensures { result ≡ first_refusal d nan counts }
 {
-    validate(d)?;
+    d.validate()?;
     if nan {
         return Err(Refusal::HistoryNan);
     }
@@ -61,7 +63,7 @@ fn results_of(values: &[Option<f64>; 160]) -> [f64; 160]
     values.map(|value| value.unwrap_or(0.0))
 }
 
-// The results that the generation closes with, if it closes.
+// The results that the generation closes with, if it closes. Not by `then` with a closure: tried, and `returns` stays open.
 fn closing_results(state: &State, values: &[Option<f64>; 160]) -> Option<[f64; 160]>
     requires { state.now.n ≤ length values.now }
     ensures { result ≡ closing_results state.now values.now }
@@ -135,20 +137,39 @@ fn sample_gathered(
     }
 }
 
+// The call over the entries of a history: its answer and its draws. The state is lent: one on the move is 67 KB.
+fn sample_over<I: Iterator<Item = CompletedTrial> + Drop>(
+    state: &mut State,
+    d: Distribution,
+    trial: u64,
+    entries: I,
+) -> (Result<ParamValue, Refusal>, u64)
+    requires sized { Measured state.old }
+    requires can { I.can_next entries }
+    requires ends { IsFinite (I.remaining entries) }
+    ensures { (es : List CompletedTrial) × Drains I.next_gives entries es × (numbered (returned result state.new) ≡ sample_of state.old d trial es) }
+{
+    let asked = ask(state);
+    let wanted = asked.numbers.as_slice();
+    let g = scan(entries, asked.lo, asked.hi, wanted, Gathered::new());
+    sample_gathered(state, d, trial, &g)
+}
+
 // The sample call over two plain slices, a number and a value for each entry of the history.
-pub fn sample_slices<'a>(
+pub fn sample_slices(
     mut state: State,
     distribution: Distribution,
     trial: u64,
-    numbers: &'a [u64],
-    values: &'a [f64],
+    numbers: &[u64],
+    values: &[f64],
 ) -> Sampled
     ensures { numbered result ≡ sample_of state distribution trial (trials_of numbers.now values.now) }
 {
-    let asked = ask(&state);
-    let wanted = &asked.numbers[..wanted_count(&state)];
-    let g = gather_slices(numbers, values, asked.lo, asked.hi, wanted, Gathered::new());
-    let (answer, draws) = sample_gathered(&mut state, distribution, trial, &g);
+    let entries = numbers.iter().zip(values).map(|(number, value)| CompletedTrial {
+        number: *number,
+        value: *value,
+    });
+    let (answer, draws) = sample_over(&mut state, distribution, trial, entries);
     Sampled {
         answer,
         state,
@@ -156,8 +177,7 @@ pub fn sample_slices<'a>(
     }
 }
 
-// The sample call over a slice of completed trials. Both calls ask, scan and put together: a closure for the scan would say its
-// contract in two clauses, and what they share beside it is `sample_gathered`.
+// The sample call over a slice of completed trials. Distribution and trial are the parameters of the Rust's own `sample`.
 pub fn sample(
     mut state: State,
     distribution: Distribution,
@@ -166,10 +186,8 @@ pub fn sample(
 ) -> Sampled
     ensures { numbered result ≡ sample_of state distribution trial history.now }
 {
-    let asked = ask(&state);
-    let wanted = &asked.numbers[..wanted_count(&state)];
-    let g = gather(history, asked.lo, asked.hi, wanted, Gathered::new());
-    let (answer, draws) = sample_gathered(&mut state, distribution, trial, &g);
+    let entries = history.iter().copied();
+    let (answer, draws) = sample_over(&mut state, distribution, trial, entries);
     Sampled {
         answer,
         state,

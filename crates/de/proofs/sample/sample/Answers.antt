@@ -1,13 +1,13 @@
--- `sample` meets its contract: ask, gather, and answer; that the call on what is gathered is the call on the history: Scanned.
-use Rattle.std.proofs.Common.{◌∙◌, rules}
+-- The iterator gives the entries of the slice.
+use Rattle.std.proofs.lemmas.Iterator.{YieldsList-from_slice}
+use Rattle.std.proofs.lemmas.Iterator.Consumers.{YieldsList-from_copied}
 use Rattle.state.proofs.Measured.{measured}
-use Rattle.de.proofs.Scanned as By
+use Rattle.de.specs.Sample.{sample_of}
+use Rattle.de.proofs.Over.{told}
 use Rattle.de.proofs.sample.sample.Goals as goal
 
-pub sample_gathered-answer-requires : goal.sample_gathered-answer-requires
-sample_gathered-answer-requires c =
-    let mm = measured c.args.state _ c.well_formed.0 in
-    record { arrays = mm; places = search rules; numbers = By.numbers c.args.state mm _ _ c.ask-asked.ensures _ c.wanted_count.ensures.is _ c.new.ensures _ c.gather-g.ensures }
+pub sample_over-answer-requires-clause-sized : goal.sample_over-answer-requires-clause-sized
+sample_over-answer-requires-clause-sized c = measured c.args.state _ c.well_formed.0
 
 pub returns : goal.returns
-returns c = c.sample_gathered-answer.ensures ∙ By.called c.args.state (measured c.args.state _ c.well_formed.0) _ _ c.ask-asked.ensures _ c.wanted_count.ensures.is _ c.new.ensures _ c.gather-g.ensures _ _
+returns c = told (sample_of c.args.state c.args.distribution c.args.trial) _ c.sample_over-answer.ensures (YieldsList-from_copied (YieldsList-from_slice c.args.history.now cc))

@@ -1,13 +1,19 @@
--- `sample_slices` meets its contract: ask, gather, and answer; that the call on what is gathered is the call on the history: Scanned.
-use Rattle.std.proofs.Common.{◌∙◌, rules}
+-- The iterator gives the entries that the two slices make.
+use Rattle.std.proofs.Common.{List, ap, ◌∙◌, rules}
+use Rattle.std.proofs.lemmas.Iterator.{YieldsList-from_slice, YieldsList-from_zip, YieldsList-from_map}
+use Rattle.history.specs.declared.CompletedTrial.{CompletedTrial}
+use Rattle.history.proofs.Scans.{entry_of, trials-zip}
 use Rattle.state.proofs.Measured.{measured}
-use Rattle.de.proofs.Scanned as By
+use Rattle.de.specs.Sample.{sample_of}
+use Rattle.de.proofs.Over.{told}
 use Rattle.de.proofs.sample.sample_slices.Goals as goal
 
-pub sample_gathered-answer-requires : goal.sample_gathered-answer-requires
-sample_gathered-answer-requires c =
-    let mm = measured c.args.state _ c.well_formed.0 in
-    record { arrays = mm; places = search rules; numbers = By.numbers c.args.state mm _ _ c.ask-asked.ensures _ c.wanted_count.ensures.is _ c.new.ensures _ c.gather_slices-g.ensures }
+pub sample_over-answer-requires-clause-sized : goal.sample_over-answer-requires-clause-sized
+sample_over-answer-requires-clause-sized c = measured c.args.state _ c.well_formed.0
 
 pub returns : goal.returns
-returns c = c.sample_gathered-answer.ensures ∙ By.called c.args.state (measured c.args.state _ c.well_formed.0) _ _ c.ask-asked.ensures _ c.wanted_count.ensures.is _ c.new.ensures _ c.gather_slices-g.ensures _ _
+returns c =
+    let a = c.args in
+    let pairs = YieldsList-from_zip (YieldsList-from_slice a.numbers.now cc) (YieldsList-from_slice a.values.now cc) in
+    told (sample_of c.args.state c.args.distribution c.args.trial) _ c.sample_over-answer.ensures (YieldsList-from_map _ entry_of pairs c.map-entries.ensures.closure (λ x r q k. search rules))
+    ∙ ap (λ (es : List CompletedTrial). sample_of a.state a.distribution a.trial es) (trials-zip a.numbers.now a.values.now)
