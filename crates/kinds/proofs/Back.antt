@@ -25,16 +25,17 @@ use Rattle.ledger.specs.Words.{All, all}
 use Rattle.candidates.specs.Space.{continuous_dims, continuous_count}
 use Rattle.candidates.specs.declared.Candidate.{Candidate}
 use Rattle.evolution.specs.declared.DEStrategy.TheVariants.{Rand1, Best1, CurrentToBest1}
+use Rattle.evolution.specs.Strategy.{strategy_number}
 use Rattle.evolution.specs.declared.DEStrategy.{DEStrategy}
 use Rattle.evolution.specs.declared.Member.{Member}
 use Rattle.evolution.specs.declared.Setup.{Setup}
 use Rattle.kernel.specs.Fits.{is_zero, entries_fit, choice_limit, choices_fit, fits}
 use Rattle.state.specs.declared.TrialProgress.{TrialProgress}
-use Rattle.state.proofs.Flags.{true-and}
+use Rattle.std.proofs.lemmas.Bool.{and_parts}
 use Rattle.state.proofs.Floats.{zero-true}
 use Rattle.state.proofs.Tidy.{padded}
 use Rattle.kinds.specs.Opened.{row}
-use Rattle.kinds.specs.Rows.{double_word, word_double, whole_word, word_whole, strategy_word, word_strategy, flag, word_option, setup_words, setup_in, float_words, int_words, dim_words, dim_in, trial_words, trial_in, vector_words, entries_in, choices_in, candidate_words, candidate_in, member_words, member_in}
+use Rattle.kinds.specs.Rows.{double_word, word_double, whole_word, word_whole, word_strategy, flag, word_option, setup_words, setup_in, float_words, int_words, dim_words, dim_in, trial_words, trial_in, vector_words, entries_in, choices_in, candidate_words, candidate_in, member_words, member_in}
 use Rattle.std.specs.List.{flat_map}
 use Rattle.kinds.specs.Typed.{Double, Whole, TypedCandidate}
 
@@ -43,7 +44,7 @@ double-back x h = of_bits-to_bits binary64 x h
 
 -- ---- the set-up and the first trial
 
-strategy-back : (t : DEStrategy) → word_strategy (strategy_word t) ≡ t
+strategy-back : (t : DEStrategy) → word_strategy (strategy_number t) ≡ t
 strategy-back Rand1 = refl
 strategy-back Best1 = refl
 strategy-back CurrentToBest1 = refl
@@ -203,7 +204,7 @@ unfolding choices_in vector_words choices_fit
 choices-back [] xs cs rest h l = refl
 choices-back (d ∷ ds) xs [] rest h l = absurd (true≢false (sym h))
 choices-back (d ∷ ds) xs (c ∷ cs) rest h l =
-    let r = true-and (ltb c (choice_limit d)) (choices_fit ds cs) h in
+    let r = and_parts (ltb c (choice_limit d)) (choices_fit ds cs) h in
     go (is_continuous d) refl (ltb-true c (choice_limit d) r.0) (λ ys. choices-back ds ys cs rest r.1 (λ a m. l a (Memᴰ.tail m)))
   where
     none_left : (c : ℕ) → c < 1 → 0 ≡ c
@@ -228,30 +229,30 @@ choices-back (d ∷ ds) xs (c ∷ cs) rest h l =
 zeros : (xs : List Float) → all is_zero xs ≡ true → xs ≡ replicate (length xs) zero_f
 unfolding all
 zeros [] e = refl
-zeros (x ∷ xs) e = let r = true-and (is_zero x) (all is_zero xs) e in λ i. zero-true x r.0 i ∷ zeros xs r.1 i
+zeros (x ∷ xs) e = let r = and_parts (is_zero x) (all is_zero xs) e in λ i. zero-true x r.0 i ∷ zeros xs r.1 i
 
 noughts : (cs : List ℕ) → all (eqb 0) cs ≡ true → cs ≡ replicate (length cs) 0
 unfolding all
 noughts [] e = refl
-noughts (c ∷ cs) e = let r = true-and (eqb 0 c) (all (eqb 0) cs) e in λ i. sym (eqb-true 0 c r.0) i ∷ noughts cs r.1 i
+noughts (c ∷ cs) e = let r = and_parts (eqb 0 c) (all (eqb 0) cs) e in λ i. sym (eqb-true 0 c r.0) i ∷ noughts cs r.1 i
 
 entries-after : (n : ℕ) (xs : List Float) → entries_fit n xs ≡ true → (n ≤ length xs) × (all is_zero (drop n xs) ≡ true)
 unfolding entries_fit
 entries-after zero xs e = (omega arith, e)
 entries-after (suc n) [] e = absurd (true≢false (sym e))
-entries-after (suc n) (x ∷ xs) e = let r = entries-after n xs (true-and (is_finite x) (entries_fit n xs) e).1 in (omega (arith, r.0), r.1)
+entries-after (suc n) (x ∷ xs) e = let r = entries-after n xs (and_parts (is_finite x) (entries_fit n xs) e).1 in (omega (arith, r.0), r.1)
 
 choices-after : (ds : List DimensionInfo) (cs : List ℕ) → choices_fit ds cs ≡ true → (length ds ≤ length cs) × (all (eqb 0) (drop (length ds) cs) ≡ true)
 unfolding choices_fit
 choices-after [] cs e = (omega arith, e)
 choices-after (d ∷ ds) [] e = absurd (true≢false (sym e))
-choices-after (d ∷ ds) (c ∷ cs) e = let r = choices-after ds cs (true-and (ltb c (choice_limit d)) (choices_fit ds cs) e).1 in (omega (arith, r.0), r.1)
+choices-after (d ∷ ds) (c ∷ cs) e = let r = choices-after ds cs (and_parts (ltb c (choice_limit d)) (choices_fit ds cs) e).1 in (omega (arith, r.0), r.1)
 
 module _ (ds : List DimensionInfo) (y : Candidate) (t : TypedCandidate y) (h : fits ds y ≡ true) (rest : List ℕ) where
   pub candidate-back : candidate_in ds (candidate_words ds y ++ rest) ≡ y
   unfolding fits
   candidate-back =
-      let r = true-and (entries_fit (continuous_count ds) y.x) (choices_fit ds y.choices) h in
+      let r = and_parts (entries_fit (continuous_count ds) y.x) (choices_fit ds y.choices) h in
       let a = entries-after (continuous_count ds) y.x r.0 in
       let b = choices-after ds y.choices r.1 in
       let lx = t.x in

@@ -31,7 +31,7 @@ use Rattle.state.specs.Blank.{blank_dim, blank_trial, is_blank_distribution, is_
 use Rattle.state.specs.Places.{places_fit, passes}
 use Rattle.state.specs.Sound.{sound_state}
 use Rattle.state.specs.declared.State.{State}
-use Rattle.state.proofs.Flags.{true-and}
+use Rattle.std.proofs.lemmas.Bool.{and_parts}
 use Rattle.state.proofs.Measured.{arrays-of, Measured}
 use Rattle.state.proofs.Whole.{of-sound}
 use Rattle.records.proofs.Lists.{all_of, all_take, all_listed, all-padded, all_same, all-with, listed-length}
@@ -145,7 +145,7 @@ blank-fits (D.Categorical d) e = tt
 
 pub not-in-use : {A : Type 0} (right blank : A → Bool) (n : ℕ) (xs : List A) → places_fit right blank n xs ≡ true → All (λ x. blank x ≡ true) (drop n xs)
 unfolding places_fit
-not-in-use right blank n xs e = all_of blank (drop n xs) (true-and (all right (take n xs)) (all blank (drop n xs)) e).1
+not-in-use right blank n xs e = all_of blank (drop n xs) (and_parts (all right (take n xs)) (all blank (drop n xs)) e).1
 
 -- ---- the state
 

@@ -27,7 +27,7 @@ use Rattle.state.specs.Places.{places_fit, passes, member_fits}
 use Rattle.state.specs.Sound.{sound_state}
 use Rattle.state.specs.View.{candidate_count, parent_count, trial_of, progress_of, parent_of, view, laid}
 use Rattle.state.specs.declared.State.{State}
-use Rattle.state.proofs.Flags.{true-and}
+use Rattle.std.proofs.lemmas.Bool.{and_parts}
 use Rattle.state.proofs.Laid.{back}
 use Rattle.state.proofs.Parts.{Parts}
 use Rattle.state.proofs.Tidy.{sound-few, is-laid}
@@ -55,7 +55,7 @@ none_of (Some n) e = absurd (true≢false (sym e))
 
 pub in_use : {A : Type 0} (right blank : A → Bool) (n : ℕ) (xs : List A) → places_fit right blank n xs ≡ true → All (λ x. right x ≡ true) (take n xs)
 unfolding places_fit
-in_use right blank n xs e = all_of right (take n xs) (true-and (all right (take n xs)) (all blank (drop n xs)) e).0
+in_use right blank n xs e = all_of right (take n xs) (and_parts (all right (take n xs)) (all blank (drop n xs)) e).0
 
 min-is : (n m : ℕ) → n ≤ m → min n m ≡ n
 min-is n m h = omega arith
@@ -106,7 +106,7 @@ module _ (s : State) (e : sound_state s ≡ true) (p : TypedState s) where
   parents-return y m =
       let t = all_take (λ (m : Member). TypedCandidate m.candidate × Double m.value) (parent_count s) s.parents p.parents y m in
       member-returns (dims_of s) y t.0 t.1
-      (true-and (fits (dims_of s) y.candidate) _ (in_use (member_fits (dims_of s)) is_blank_member (parent_count s) s.parents parts.parents y m)).0
+      (and_parts (fits (dims_of s) y.candidate) _ (in_use (member_fits (dims_of s)) is_blank_member (parent_count s) s.parents parts.parents y m)).0
 
   -- ---- each array
 

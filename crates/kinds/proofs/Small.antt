@@ -19,6 +19,7 @@ use Rattle.distribution.specs.declared.Distribution.TheVariants as D
 use Rattle.common.proofs.PlaceLaws.{place-le}
 use Rattle.ledger.specs.Words.{All}
 use Rattle.candidates.specs.declared.Candidate.{Candidate}
+use Rattle.evolution.specs.Strategy.{strategy_number}
 use Rattle.evolution.specs.declared.DEStrategy.{DEStrategy}
 use Rattle.evolution.specs.declared.DEStrategy.TheVariants.{Rand1, Best1, CurrentToBest1}
 use Rattle.evolution.specs.declared.Member.{Member}
@@ -28,7 +29,7 @@ use Rattle.state.specs.declared.State.{State}
 use Rattle.state.specs.declared.TrialProgress.{TrialProgress}
 use Rattle.records.proofs.Lists.{both, all_take}
 use Rattle.records.proofs.Fits.{Small}
-use Rattle.kinds.specs.Rows.{double_word, whole_word, flag, strategy_word, setup_words, float_words, int_words, dim_words, trial_words, vector_words, candidate_words, member_words}
+use Rattle.kinds.specs.Rows.{double_word, whole_word, flag, setup_words, float_words, int_words, dim_words, trial_words, vector_words, candidate_words, member_words}
 use Rattle.std.specs.List.{flat_map}
 use Rattle.kinds.specs.Kinds.{dims_of, kind_words, count_words, dims_words, trials_words, parents_words, candidates_words}
 use Rattle.kinds.specs.Typed.{Double, Whole, TypedDistribution, Choices, Word, TypedState, TypedNumbers, TypedCandidate, TypedMember}
@@ -53,7 +54,7 @@ flag_word : (b : Bool) → Word (flag b)
 flag_word true = omega arith
 flag_word false = omega arith
 
-strategy-word : (t : DEStrategy) → Word (strategy_word t)
+strategy-word : (t : DEStrategy) → Word (strategy_number t)
 strategy-word Rand1 = omega arith
 strategy-word Best1 = omega arith
 strategy-word CurrentToBest1 = omega arith

@@ -12,9 +12,9 @@ use Rattle.distribution.specs.declared.Distribution.TheVariants as D
 use Rattle.common.specs.Places.{place_of, at_place}
 use Rattle.candidates.specs.Candidate.{packed}
 use Rattle.candidates.specs.declared.Candidate.{Candidate}
-use Rattle.evolution.specs.Strategy.{strategy_number}
+use Rattle.evolution.specs.Strategy.{strategy_number, strategy_from}
 use Rattle.evolution.specs.declared.DEStrategy.{DEStrategy}
-use Rattle.evolution.specs.declared.DEStrategy.TheVariants.{Rand1, Best1, CurrentToBest1}
+use Rattle.evolution.specs.declared.DEStrategy.TheVariants.{CurrentToBest1}
 use Rattle.evolution.specs.declared.Member.{Member}
 use Rattle.evolution.specs.declared.Setup.{Setup}
 use Rattle.state.specs.declared.TrialProgress.{TrialProgress}
@@ -41,17 +41,14 @@ word_option set w = cond (eqb set 0) None (Some w)
 
 -- ---- the set-up: F, CR, strategy (0 rand1, 1 best1, 2 current-to-best1), whether a size is set, the size, the seed
 
-abbrev pub strategy_word : DEStrategy → ℕ
-strategy_word t = strategy_number t
-
 abbrev pub word_strategy : ℕ → DEStrategy
-word_strategy w = cond (eqb w 0) Rand1 (cond (eqb w 1) Best1 CurrentToBest1)
+word_strategy w = unwrap_or (strategy_from w) CurrentToBest1
 
 unfoldable pub setup_words : Setup → List ℕ
 setup_words S =
     double_word S.mutation_factor
     ∷ double_word S.crossover_rate
-    ∷ strategy_word S.strategy
+    ∷ strategy_number S.strategy
     ∷ flag (is_some S.population_size)
     ∷ unwrap_or S.population_size 0
     ∷ S.seed

@@ -1,5 +1,4 @@
-// The kinds of records.
-// By its number in a file.
+// The kinds of records, each by its number in a file.
 #[derive(Clone, Copy, Debug, PartialEq, Eq)]
 pub enum Kind {
     Setup = 1,
@@ -24,6 +23,7 @@ impl Kind {
         Kind::Candidates,
     ];
 
+    // Its number, which each case has beside it.
     pub fn number(self) -> u64
         ensures { result ≡ kind_number self }
     {

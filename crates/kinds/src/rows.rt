@@ -1,6 +1,6 @@
 // The words of each part of a state, and each part from its words.
 ghost use Rattle.std.specs.Prelude.{◌≡◌, ◌≤◌, length};
-ghost use Rattle.kinds.specs.Rows.{word_strategy, word_option, setup_words, setup_in, dim_words, dim_in, trial_words, trial_in};
+ghost use Rattle.kinds.specs.Rows.{word_option, setup_words, setup_in, dim_words, dim_in, trial_words, trial_in};
 
 use common::places::{at_place, place};
 use distribution::{
@@ -9,17 +9,6 @@ use distribution::{
 use evolution::{DEStrategy, Setup};
 use numbers::{bits_of, real};
 use state::TrialProgress;
-
-// A file's word: of those that are no strategy's number, each is read as the last, and differs when the words are compared.
-fn word_strategy(w: u64) -> DEStrategy
-    ensures { result ≡ word_strategy w }
-{
-    match w {
-        0 => DEStrategy::Rand1,
-        1 => DEStrategy::Best1,
-        _ => DEStrategy::CurrentToBest1,
-    }
-}
 
 // A flag, and the value that there is then.
 pub fn word_option(flag: u64, w: u64) -> Option<u64>
@@ -43,6 +32,7 @@ pub fn setup_row(s: Setup) -> [u64; 6]
     ]
 }
 
+// A word that is no strategy's number is read as the last strategy, and differs when the words are compared.
 #[tactic(auto, unfolding(crate::specs::Rows::setup_in))]
 pub fn setup_in(row: &[u64]) -> Setup
     requires { 6 ≤ length row.now }
@@ -51,15 +41,21 @@ pub fn setup_in(row: &[u64]) -> Setup
     Setup {
         mutation_factor: real(row[0]),
         crossover_rate: real(row[1]),
-        strategy: word_strategy(row[2]),
+        strategy: DEStrategy::from_number(row[2]).unwrap_or(DEStrategy::CurrentToBest1),
         population_size: word_option(row[3], row[4]),
         seed: row[5],
     }
 }
 
+// How many words a dimension has.
+pub const DIM_WIDTH: usize = 5;
+
+// How many words an open trial has.
+pub const TRIAL_WIDTH: usize = 2;
+
 // 1, 2 and 3 are the file's words for the three distributions, in these two functions and nowhere else.
 #[tactic(auto, unfolding(crate::specs::Rows::dim_words))]
-pub fn dim_row(d: DimensionInfo) -> [u64; 5]
+pub fn dim_row(d: DimensionInfo) -> [u64; DIM_WIDTH]
     ensures { result ≡ dim_words d }
 {
     match d.distribution {
@@ -81,6 +77,7 @@ pub fn dim_row(d: DimensionInfo) -> [u64; 5]
     }
 }
 
+// Words by their place, as in the other two that read a row: a slice's pattern would want an arm for a shorter row.
 #[tactic(auto, unfolding(crate::specs::Rows::dim_in))]
 pub fn dim_in(row: &[u64]) -> DimensionInfo
     requires { 5 ≤ length row.now }
@@ -108,7 +105,7 @@ pub fn dim_in(row: &[u64]) -> DimensionInfo
 }
 
 #[tactic(auto, unfolding(crate::specs::Rows::trial_words))]
-pub fn trial_row(t: TrialProgress) -> [u64; 2]
+pub fn trial_row(t: TrialProgress) -> [u64; TRIAL_WIDTH]
     ensures { result ≡ trial_words t }
 {
     [t.number, t.next_dim as u64]

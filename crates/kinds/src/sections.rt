@@ -31,6 +31,7 @@ fn count_row(s: &State) -> [u64; 10]
     ]
 }
 
+// Four loops alike: one function for them would be handed a closure that appends, and its law would be longer than the loop.
 fn put_dims(section: &mut Section, dims: &[DimensionInfo])
     requires { length section.old + 5 * length dims.now ≤ 3600 }
     ensures { section.new ≡ section.old ++ flat_map dim_words dims.now }
@@ -67,7 +68,7 @@ fn put_candidates(section: &mut Section, candidates: &[Candidate], dims: &[Dimen
     }
 }
 
-// The words of a kind.
+// The words of a kind. `Roomy` is asked at each function: a state may be handed in whose counts are past its places.
 #[tactic(auto, unfolding(crate::specs::Kinds::kind_words, crate::specs::Kinds::dims_words, crate::specs::Kinds::trials_words, crate::specs::Kinds::parents_words, crate::specs::Kinds::candidates_words))]
 pub fn section_of(s: &State, kind: Kind) -> Section
     requires { Roomy s.now }

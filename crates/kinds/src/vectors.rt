@@ -1,21 +1,23 @@
-// A candidate's and a parent's words, and each from its words.
+// A candidate's and a parent's words, and each from its words. The bound on the dimensions is asked at each function: they are a slice
+// lent of a state, and a type with the bound would be made at each call.
 ghost use Rattle.std.specs.Prelude.{◌≡◌, ◌+◌, ◌<◌, ◌≤◌, ◌++◌, length};
 ghost use Rattle.kinds.specs.Rows.{candidate_words, candidate_in, member_words, member_in};
 
 use crate::section::Section;
 use candidates::Candidate;
-use distribution::{DimensionInfo, is_continuous};
+use distribution::DimensionInfo;
 use evolution::Member;
 use numbers::{bits_of, real};
 
-// A word for each dimension in order: its entry where it is continuous, its choice where it is not.
+// A word for each dimension in order: its entry where it is continuous, its choice where it is not. `ci` is the next entry's place: it goes
+// on at a continuous dimension alone.
 pub fn put_candidate(section: &mut Section, c: &Candidate, dims: &[DimensionInfo])
     requires { (length dims.now ≤ 16) × (length section.old + length dims.now ≤ 3600) }
     ensures { section.new ≡ section.old ++ candidate_words dims.now c.now }
 {
     let mut ci: usize = 0;
     for (i, d) in dims.iter().enumerate() {
-        if is_continuous(d.distribution) {
+        if d.distribution.is_continuous() {
             section.push(bits_of(c.x[ci]));
             ci += 1;
         } else {
@@ -41,7 +43,7 @@ pub fn candidate_in(row: &[u64], dims: &[DimensionInfo]) -> Candidate
     let mut choices = [0; 16];
     let mut ci: usize = 0;
     for (i, d) in dims.iter().enumerate() {
-        if is_continuous(d.distribution) {
+        if d.distribution.is_continuous() {
             x[ci] = real(row[i]);
             ci += 1;
         } else {

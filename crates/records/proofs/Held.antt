@@ -12,7 +12,7 @@ use lib.ListN.{length, get_or, set, replicate, length-append, length-replicate, 
 use lib.Seq.{get_or-set_same, get_or-set_other}
 use Rattle.rng_util.specs.Many.{pad_to}
 use Rattle.ledger.specs.Words.{All}
-use Rattle.state.proofs.Flags.{true-and}
+use Rattle.std.proofs.lemmas.Bool.{and_parts}
 use Rattle.records.specs.declared.Piece.{Piece}
 use Rattle.records.specs.Tables.{records_for, piece_of, pieces_from, section, no_records, laid_at, lay, laid_on, table_of, same_words, same_flags, holds}
 use Rattle.records.specs.declared.Table.{Table}
@@ -147,7 +147,7 @@ unfolding same_words
 same-is [] [] e = refl
 same-is [] (w ∷ ws) e = absurd (true≢false (sym e))
 same-is (v ∷ vs) [] e = absurd (true≢false (sym e))
-same-is (v ∷ vs) (w ∷ ws) e = let r = true-and (eqb v w) (same_words vs ws) e in λ i. eqb-true v w r.0 i ∷ same-is vs ws r.1 i
+same-is (v ∷ vs) (w ∷ ws) e = let r = and_parts (eqb v w) (same_words vs ws) e in λ i. eqb-true v w r.0 i ∷ same-is vs ws r.1 i
 
 flags-are : (vs ws : List Bool) → same_flags vs ws ≡ true → vs ≡ ws
 unfolding same_flags
@@ -165,11 +165,11 @@ module _ (kind : ℕ) (ws : List ℕ) (rs : List Piece) (e : holds (table_of kin
 
   pub held-words : (table_of kind rs).words ≡ pad_to 3600 0 ws
   unfolding holds
-  held-words = same-is (table_of kind rs).words (pad_to 3600 0 ws) (true-and (same_words (table_of kind rs).words (pad_to 3600 0 ws)) _ e).0
+  held-words = same-is (table_of kind rs).words (pad_to 3600 0 ws) (and_parts (same_words (table_of kind rs).words (pad_to 3600 0 ws)) _ e).0
 
   pub held-flags : (table_of kind rs).filled ≡ pad_to 1200 false (replicate n true)
   unfolding holds
-  held-flags = flags-are (table_of kind rs).filled (pad_to 1200 false (replicate n true)) (true-and (same_words (table_of kind rs).words (pad_to 3600 0 ws)) _ e).1
+  held-flags = flags-are (table_of kind rs).filled (pad_to 1200 false (replicate n true)) (and_parts (same_words (table_of kind rs).words (pad_to 3600 0 ws)) _ e).1
 
   -- the section fits its table
   pub held-few : length ws ≤ 3600

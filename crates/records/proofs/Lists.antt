@@ -8,7 +8,7 @@ use mathlib.Core.Logic.{⊎_elim}
 use lib.ListN.{length, take, drop, replicate, take-append-drop}
 use Rattle.rng_util.specs.Many.{pad_to, listed}
 use Rattle.ledger.specs.Words.{All, all}
-use Rattle.state.proofs.Flags.{true-and}
+use Rattle.std.proofs.lemmas.Bool.{and_parts}
 
 pub both : {A : Type 0} {P : A → Type 0} (xs ys : List A) → All P xs → All P ys → All P (xs ++ ys)
 both xs ys h k a m = ⊎_elim (h a) (k a) (Memᴰ.append_cases xs m)
@@ -35,8 +35,8 @@ all-padded P n b xs h k = both xs (replicate (n - length xs) b) h (all_same P (n
 pub all_of : {A : Type 0} (q : A → Bool) (xs : List A) → all q xs ≡ true → All (λ x. q x ≡ true) xs
 unfolding all
 all_of q [] e a m = absurd (Memᴰ.not-nil m)
-all_of q (x ∷ xs) e a (Memᴰ.head r) = subst (λ y. q y ≡ true) (sym r) (true-and (q x) (all q xs) e).0
-all_of q (x ∷ xs) e a (Memᴰ.tail m) = all_of q xs (true-and (q x) (all q xs) e).1 a m
+all_of q (x ∷ xs) e a (Memᴰ.head r) = subst (λ y. q y ≡ true) (sym r) (and_parts (q x) (all q xs) e).0
+all_of q (x ∷ xs) e a (Memᴰ.tail m) = all_of q xs (and_parts (q x) (all q xs) e).1 a m
 
 pub all_take : {A : Type 0} (P : A → Type 0) (n : ℕ) (xs : List A) → All P xs → All P (take n xs)
 all_take P zero xs h a m = absurd (Memᴰ.not-nil m)

@@ -12,7 +12,8 @@ use borrow.Author.Tests.{eqb-true, eqb-false, eq-eqb, ne_eqb}
 use lib.Dec.{eqb}
 use lib.ListN.{length}
 use Rattle.ledger.specs.Words.{All}
-use Rattle.state.proofs.Flags.{and-true, true-and}
+use Rattle.std.proofs.lemmas.Bool.{and_parts}
+use Rattle.state.proofs.Flags.{and-true}
 use Rattle.records.specs.declared.Piece.{Piece}
 use Rattle.records.specs.Tables.{records_for, piece_of, pieces_from, section, laid_on, table_of, holds, agrees, no_records, sections_to, hold_to}
 use Rattle.records.specs.declared.Table.{Table}
@@ -125,7 +126,7 @@ module _ (words : ℕ → List ℕ) where
   each_holds (suc n) rs e kind h l = go (eqb kind (suc n)) refl (each_holds n rs r.0 kind h)
     where
       r : (hold_to n rs words ≡ true) × (holds (table_of (suc n) rs) (words (suc n)) ≡ true)
-      r = true-and (hold_to n rs words) (holds (table_of (suc n) rs) (words (suc n))) e
+      r = and_parts (hold_to n rs words) (holds (table_of (suc n) rs) (words (suc n))) e
 
       below : (kind ≡ suc n → ⊥) → kind ≤ n
       below d = omega arith
@@ -143,7 +144,7 @@ module _ (words : ℕ → List ℕ) where
     pub agrees-perm : agrees n rs words ≡ true → Permᴰ rs (sections_to n words)
     unfolding agrees
     agrees-perm e =
-        let r = true-and (hold_to n rs words) (eqb (length rs) (length (sections_to n words))) e in
+        let r = and_parts (hold_to n rs words) (eqb (length rs) (length (sections_to n words))) e in
         perm-of (sections_to n words) rs (sections-keyed n) (each-kind (λ (p : Piece). Memᴰ p rs) n (λ k a b. section-in k (words k) rs (each_holds n rs r.0 k a b)))
         (eqb-true (length rs) (length (sections_to n words)) r.1)
 

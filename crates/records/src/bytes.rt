@@ -13,7 +13,7 @@ pub fn read(file: &[u8], at: usize, width: usize) -> u64
     u64::from_le_bytes(bytes)
 }
 
-// The number's `width` bytes, from place `at` on.
+// The number's `width` bytes, from place `at` on. By hand: std's `to_le_bytes` gives eight of them, and this any width.
 pub fn put(file: &mut [u8], at: usize, width: usize, v: u64)
     requires { at + width ≤ length file.old }
     ensures { file.new ≡ paste file.old at (bytes_of width v) width }

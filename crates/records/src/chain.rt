@@ -1,5 +1,5 @@
 // A file's records, and their chain.
-ghost use Rattle.std.specs.Prelude.{◌≡◌, ◌<◌, length};
+ghost use Rattle.std.specs.Prelude.{◌≡◌, ◌<◌};
 ghost use Rattle.records.specs.Chain.{record_count, next_at, piece_at, chain_of, chain_length, walk, Walks};
 ghost use Rattle.records.specs.Tables.{table_of};
 
@@ -29,7 +29,7 @@ fn piece_at(file: &[u8], k: usize) -> Piece
 }
 
 // The number of records on the chain; none where a next index is past the end, or the chain does not end. A chain of more
-// records than the file has meets one twice.
+// records than the file has meets one twice. Walked by hand, here and below: it is the count of steps that tells a chain from a ring.
 pub fn chain_length(file: &[u8]) -> Option<usize>
     ensures { result ≡ chain_length (chain_of file.now) }
 {
@@ -47,7 +47,8 @@ pub fn chain_length(file: &[u8]) -> Option<usize>
     None
 }
 
-// The records of one kind among the `count` of the chain.
+// The records of one kind among the `count` of the chain. That the walk stays in the file is asked here and of two callers: in a struct of file
+// and count the fact would need a lemma of its own, since it is said record by record.
 pub fn collect(file: &[u8], count: usize, kind: u64) -> Table
     requires { Walks file.now count 0 }
     ensures { result ≡ table_of kind (walk file.now count 0) }

@@ -31,7 +31,7 @@ fn word(words: &[u64], i: usize) -> u64
     words.get(i).copied().unwrap_or(0)
 }
 
-// The record of a kind at position k.
+// The record of a kind at position k. Word by word: the last record may have fewer than three.
 fn piece_of(kind: u64, words: &[u64], k: usize) -> Piece
     requires { k < records_for (length words.now) }
     ensures { result ≡ piece_of kind words.now k }
@@ -58,7 +58,7 @@ fn put_record(file: &mut [u8], at: usize, next: u64, piece: Piece)
     put(file, at + 24, 8, piece.third);
 }
 
-// The records of a kind, the first one with index k, in a file of `count`.
+// The records of a kind, the first one with index k, in a file of `count`. By place: it says where a record's bytes go.
 pub fn put_section(file: &mut [u8], count: usize, k: usize, kind: u64, words: &[u64])
     requires { 32 * (k + records_for (length words.now)) ≤ length file.old }
     ensures { file.new ≡ paste file.old (32 * k) (records_from count k (section kind words.now)) (32 * records_for (length words.now)) }

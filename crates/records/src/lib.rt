@@ -6,8 +6,8 @@ pub mod chain;
 pub mod laid;
 pub mod tables;
 
-// What a record holds beside its next index. Its kind is a number, here and in the functions below: a file has any there,
-// and the enum of the six that are meant stands in a crate above (kinds).
+// What a record holds beside its next index. Its kind is a number, here and in the functions below: a file has any there, and the one that
+// is asked for is compared with it as it stands. The enum of the six that are meant stands in a crate above (kinds).
 #[derive(Clone, Copy)]
 pub struct Piece {
     pub kind: u64,
@@ -18,7 +18,7 @@ pub struct Piece {
 }
 
 // The records of one kind: the words of position k stand at 3k, and filled[k] says whether there is such a record. It is no
-// array of options: a kind's rows run across its records, and are read from the words as they lie.
+// array of options: a kind's rows run across its records, and are read from the words as they lie. It is swept whole, so it has no count.
 #[derive(Clone, Copy)]
 pub struct Table {
     pub words: [u64; 3600],

@@ -12,11 +12,10 @@ use lib.ListN.{length, take}
 use Rattle.ledger.specs.Words.{All, or_else}
 use Rattle.ledger.specs.Kernel.{Gen, Made, Parent, Kernel}
 use Rattle.ledger.specs.Call.{Call, call_refusal}
-use Rattle.ledger.specs.State.{Trial, numbers, State, fresh, start_gen, refuse}
+use Rattle.ledger.specs.State.{Trial, numbers, State, fresh, start_gen}
 use Rattle.ledger.specs.Closing.{scan, results_of, counted, store, select, new_parents, settle, reopen, close}
 use Rattle.ledger.specs.Assignment.{next_in, move, Accepted, setting_of, serve, assign}
-use Rattle.ledger.specs.Sample.{discovers, sampling, begin, discovery, state_refusal, accept, outcome, step, sample}
-use Rattle.ledger.specs.Soundness.{sound_test}
+use Rattle.ledger.specs.Sample.{discovers, sampling, begin, discovery, state_refusal, accept, outcome, step}
 use Rattle.ledger.proofs.Lists.{none≢some, some_inj, bind-some, all_nil, all_snoc}
 
 all_cons : {A : Type 0} (P : A → Type 0) (x : A) (xs : List A) → P x → All P xs → All P (x ∷ xs)
@@ -192,14 +191,6 @@ module _ (K : Kernel) (W : K.Word → Type 0) (P : K.Candidate → Type 0) (Q : 
         go (Some r) o e = f
         go None None e = f
         go None (Some a) e = accept-fine s c s.size a few f d e
-
-    pub sample-fine : (s : State K) (c : Call K) → length s.dims ≤ 16 → Fine s → FineCall c → Fine (sample K S s c).state
-    unfolding sample
-    sample-fine s c few f d = go (sound_test K S s)
-      where
-        go : (b : Bool) → Fine (cond b (step K S s c) (refuse K 0 s)).state
-        go true = step-fine s c few f d
-        go false = f
 
     pub fresh-fine : Fine (fresh K S)
     unfolding fresh

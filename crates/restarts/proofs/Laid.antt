@@ -40,7 +40,7 @@ use Rattle.state.specs.Setup.{setup_verdict}
 use Rattle.state.specs.View.{progress_of, size_number, laid}
 use Rattle.state.specs.declared.State.{State}
 use Rattle.state.specs.declared.TrialProgress.{TrialProgress}
-use Rattle.state.proofs.Flags.{true-and}
+use Rattle.std.proofs.lemmas.Bool.{and_parts}
 use Rattle.state.proofs.Laid.{slots-few, trials-few, candidates-few, parents-few, laid-sound}
 use Rattle.state.proofs.Measured.{Measured}
 use Rattle.records.proofs.Lists.{all-padded, all_of}
@@ -66,10 +66,10 @@ unfolding choices_fit
 choices-fit [] cs h e a m = let q = eqb-true 0 a (all_of (eqb 0) cs e a m) in omega arith
 choices-fit (d ∷ ds) [] h e a m = absurd (Memᴰ.not-nil m)
 choices-fit (d ∷ ds) (c ∷ cs) h e a (Memᴰ.head r) =
-    let p = ltb-true c (choice_limit d) (true-and (ltb c (choice_limit d)) (choices_fit ds cs) e).0 in
+    let p = ltb-true c (choice_limit d) (and_parts (ltb c (choice_limit d)) (choices_fit ds cs) e).0 in
     let q = limit-small d.distribution (judged-good d.distribution (h d (Memᴰ.head refl))) in
     subst (λ (c : ℕ). c < 2 ^ 16) (sym r) (omega arith)
-choices-fit (d ∷ ds) (c ∷ cs) h e a (Memᴰ.tail m) = choices-fit ds cs (λ b t. h b (Memᴰ.tail t)) (true-and (ltb c (choice_limit d)) (choices_fit ds cs) e).1 a m
+choices-fit (d ∷ ds) (c ∷ cs) h e a (Memᴰ.tail m) = choices-fit ds cs (λ b t. h b (Memᴰ.tail t)) (and_parts (ltb c (choice_limit d)) (choices_fit ds cs) e).1 a m
 
 fits-typed : (ds : List DimensionInfo) (y : Candidate) → All (λ (d : DimensionInfo). judged d.distribution ≡ None) ds → Doubles y → T (fits ds y) → TypedCandidate y
 unfolding fits
@@ -78,7 +78,7 @@ fits-typed ds y h d t =
       x = d.0.x;
       choices = d.0.choices;
       doubles = d.1;
-      small = choices-fit ds y.choices h (true-and (entries_fit (continuous_count ds) y.x) (choices_fit ds y.choices) (T→true _ t)).1;
+      small = choices-fit ds y.choices h (and_parts (entries_fit (continuous_count ds) y.x) (choices_fit ds y.choices) (T→true _ t)).1;
     }
 
 pub few_choices : (d : Distribution) → Good d → Choices d

@@ -121,11 +121,6 @@ module _ (old : State) (f : List ℕ) where
       (λ d. ⊎_elim (λ e. inr (inl (ap (handed_back old) e))) (λ v. inr (inr (v.0, ap (handed_back old) v.1))) d)
       (three-reads f)
 
-  -- records that are refused, on a file's chain
-  pub content-13 : (rs : List Piece) → misfits f ≡ false → chain_of f ≡ Some rs → content_of rs ≡ Err BadContent → restore_of old f ≡ refuse BadContent old
-  unfolding restore_of state_read
-  content-13 rs e c d = ap (handed_back old) (ap (λ (b : Bool). cond b (Err BadFile) (chained (chain_of f))) e ∙ ap chained c ∙ d)
-
 -- a file is of one state at most
 pub one-saved : (f : List ℕ) (s t : State) → Saves f s → Saves f t → s ≡ t
 one-saved f s t a b = ap (λ (r : Restored). r.state) (sym ((answer-taken s f s).1 a) ∙ (answer-taken s f t).1 b)

@@ -11,7 +11,8 @@ use lib.ListN.{length}
 use Rattle.rng_util.specs.Many.{pad_to}
 use Rattle.state.specs.Sound.{sound_state}
 use Rattle.state.specs.declared.State.{State}
-use Rattle.state.proofs.Flags.{true-and, and-true}
+use Rattle.std.proofs.lemmas.Bool.{and_parts}
+use Rattle.state.proofs.Flags.{and-true}
 use Rattle.records.specs.Tables.{agrees, table_of}
 use Rattle.records.specs.declared.Piece.{Piece}
 use Rattle.records.specs.declared.Table.{Table}
@@ -93,7 +94,7 @@ module _ (rs : List Piece) where
       where
         go : (b : Bool) → (sound_state (state_on rs) && agrees 6 rs (kind_words (state_on rs))) ≡ b → cond b (Ok (state_on rs)) (Err BadContent) ≡ Ok s → Read rs s
         go true q d =
-            let r = true-and (sound_state (state_on rs)) (agrees 6 rs (kind_words (state_on rs))) q in
+            let r = and_parts (sound_state (state_on rs)) (agrees 6 rs (kind_words (state_on rs))) q in
             let is : state_on rs ≡ s = ap (given s) d in
             record { is = is; sound = subst (λ (t : State). sound_state t ≡ true) is r.0; agree = subst (λ (t : State). agrees 6 rs (kind_words t) ≡ true) is r.1 }
         go false q d = absurd (apart BadContent d)
@@ -131,11 +132,6 @@ module _ (rs : List Piece) where
     λ e s o. refused-not-taken rs s e ((taken-exactly s).1 o),
     λ h. refused-unless rs (λ s e. h s ((taken-exactly s).0 e)),
   )
-
--- there is one at most
-pub one_state : (rs : List Piece) (s t : State) → Of rs s → Of rs t → s ≡ t
-unfolding given
-one_state rs s t a b = ap (given s) (sym ((taken-exactly rs s).1 a) ∙ (taken-exactly rs t).1 b)
 
 -- "The reader follows the chain wherever its records stand": the same records in another order are read the same
 pub any_order : (rs qs : List Piece) → Permᴰ rs qs → content_of rs ≡ content_of qs

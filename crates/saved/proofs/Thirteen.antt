@@ -9,6 +9,7 @@ use mathlib.Core.Path.{◌≡◌, refl, sym, ap, ◌∙◌}
 use mathlib.Core.Bool.{true, false, true≢false, Bool}
 use lib.ListN.{get_or}
 use Rattle.ledger.specs.Words.{All}
+use Rattle.evolution.specs.Strategy.{strategy_number}
 use Rattle.evolution.specs.declared.DEStrategy.{DEStrategy}
 use Rattle.evolution.specs.declared.DEStrategy.TheVariants.{Rand1, Best1, CurrentToBest1}
 use Rattle.state.specs.Sound.{sound_state}
@@ -19,7 +20,7 @@ use Rattle.records.proofs.Sections.{sections-keyed, section-within, Stands, stan
 use Rattle.records.proofs.Orders.{Keyed, keyed-rearranged, all-rearranged}
 use Rattle.kinds.specs.Typed.{TypedState}
 use Rattle.kinds.specs.Kinds.{kind_words, count_words}
-use Rattle.kinds.specs.Rows.{setup_words, strategy_word, flag}
+use Rattle.kinds.specs.Rows.{setup_words, flag}
 use Rattle.saved.specs.File.{pieces_of}
 use Rattle.saved.specs.Restore.{state_on, content_of}
 use Rattle.saved.specs.declared.FileRefusal.TheVariants.{BadContent}
@@ -98,7 +99,7 @@ module _ (rs : List Piece) where
   unfolding kind_words setup_words
   strategy-refused p m k d h = refused-unless rs (λ s e. go s.setup.strategy (words_are s e p m 1 0 k d).2)
     where
-      go : (t : DEStrategy) → p.third ≡ strategy_word t → ⊥
+      go : (t : DEStrategy) → p.third ≡ strategy_number t → ⊥
       go Rand1 q = omega arith
       go Best1 q = omega arith
       go CurrentToBest1 q = omega arith

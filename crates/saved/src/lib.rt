@@ -28,7 +28,7 @@ pub enum FileRefusal {
 }
 
 impl FileRefusal {
-    // The number that callers know a file's refusal by.
+    // The number that callers know a file's refusal by: a table of document 02, case by case.
     pub fn number(self) -> u64
         ensures { result ≡ file_refusal_number self }
     {
@@ -39,7 +39,8 @@ impl FileRefusal {
     }
 }
 
-// The state that the file holds; where it is refused, the one that came in.
+// The state that the file holds; where it is refused, the one that came in. Not the Result that `read` gives: that a refusal hands
+// back the state that came in is a promise to callers.
 #[derive(Clone, Copy)]
 pub struct Restored {
     pub answer: Result<(), FileRefusal>,
@@ -62,6 +63,7 @@ pub fn save(state: &State, file: &mut [u8]) -> Result<usize, FileRefusal>
 }
 
 // The table of each kind, of the `count` records on the chain. They are lent, since six tables on the move are 180 KB.
+// Not a zip with `tables.iter_mut()`: tried, and `returns` stays open, since nothing is known then of what the loop wrote.
 #[tactic(auto, using(std::proofs::lemmas::Grind::common_steps))]
 fn collect_kinds(tables: &mut [Table; 6], file: &[u8], count: usize)
     requires { Walks file.now count 0 }
@@ -95,9 +97,7 @@ pub fn read(file: &[u8]) -> Result<State, FileRefusal>
     if file.is_empty() || file.len() % 32 != 0 {
         return Err(FileRefusal::BadFile);
     }
-    let Some(count) = chain_length(file) else {
-        return Err(FileRefusal::BadFile);
-    };
+    let count = chain_length(file).ok_or(FileRefusal::BadFile)?;
     content_of(file, count)
 }
 

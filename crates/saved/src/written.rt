@@ -4,6 +4,7 @@ ghost use Rattle.kinds.specs.Kinds.{Roomy};
 ghost use Rattle.saved.specs.File.{pieces_of, file_of};
 
 use kinds::kind::Kind;
+use kinds::rows::{DIM_WIDTH, TRIAL_WIDTH};
 use kinds::sections::section_of;
 use records::laid::{put_section, records_for};
 use state::State;
@@ -17,8 +18,8 @@ pub fn record_total(s: &State) -> usize
     let dims = s.n_dims;
     let parents = s.parent_count();
     let candidates = s.candidate_count();
-    6 + records_for(dims * 5)
-        + records_for(s.n_trials * 2)
+    6 + records_for(dims * DIM_WIDTH)
+        + records_for(s.n_trials * TRIAL_WIDTH)
         + records_for(parents * (dims + 1))
         + records_for(candidates * dims)
 }
