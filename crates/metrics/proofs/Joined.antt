@@ -9,7 +9,7 @@ use Rattle.std.specs.Prelude.{None, is_some}
 use Rattle.numbers.specs.Numbers.{digit_of, digit_in, all_digits}
 use Rattle.std.specs.List.{onto_first}
 use Rattle.metrics.specs.Pieces.{cut_at, Halves, whole, halves, onto_halves, split_at}
-use Rattle.metrics.proofs.Decimals.{and_left, and_right}
+use Rattle.std.proofs.lemmas.Bool.{and_parts}
 
 -- no byte of the text is the separator
 abbrev pub Clear : ℕ → List ℕ → Type 0
@@ -24,13 +24,13 @@ clear-append sep (b ∷ s) t c d = (c.0, clear-append sep s t c.1 d)
 pub digits-clear : (sep : ℕ) → digit_of sep ≡ None → (s : List ℕ) → all_digits 10 s ≡ true → Clear sep s
 unfolding all_digits
 digits-clear sep h [] e = tt
-digits-clear sep h (b ∷ s) e = (other (eqb b sep) refl, digits-clear sep h s (and_right (is_some (digit_in 10 b)) (all_digits 10 s) e))
+digits-clear sep h (b ∷ s) e = (other (eqb b sep) refl, digits-clear sep h s (and_parts (is_some (digit_in 10 b)) (all_digits 10 s) e).1)
   where
     other : (t : Bool) → eqb b sep ≡ t → t ≡ false
     other false z = refl
     other true z =
         let none : digit_of b ≡ None = ap digit_of (eqb-true b sep z) ∙ h in
-        let some : is_some (digit_in 10 b) ≡ true = and_left (is_some (digit_in 10 b)) (all_digits 10 s) e in
+        let some : is_some (digit_in 10 b) ≡ true = (and_parts (is_some (digit_in 10 b)) (all_digits 10 s) e).0 in
         sym (rw none at some)
 
 module _ (sep : ℕ) where

@@ -18,7 +18,8 @@ use Rattle.metrics.specs.Value.{decimal_of, pointed, unsigned_of, value_word}
 use Rattle.metrics.specs.Nearest.{nearest_double}
 use Rattle.metrics.specs.Line.{trial_number, trial, fields, line_of}
 use Rattle.metrics.specs.Grammar.{Parts, Lawful, sign_of, point_of, value_text, body_text, meant}
-use Rattle.metrics.proofs.Decimals.{and_left, and_right, digits_append}
+use Rattle.std.proofs.lemmas.Bool.{and_parts}
+use Rattle.metrics.proofs.Decimals.{digits_append}
 use Rattle.metrics.proofs.Joined.{Clear, clear-append, digits-clear, split-clear, whole-clear, SplitBack, split-back}
 
 no_digit : (digit_of (code ",") ≡ None) × (digit_of (code ".") ≡ None) × (digit_of (code "-") ≡ None) × (digit_of (code "\n") ≡ None)
@@ -50,10 +51,10 @@ module _ (minus : Bool) (w f : List ℕ) where
       go false b d p q r h = cc
 
 whole-digits : (w f : List ℕ) → all_digits 10 (w ++ f) ≡ true → all_digits 10 w ≡ true
-whole-digits w f e = and_left (all_digits 10 w) (all_digits 10 f) (sym (digits_append w f) ∙ e)
+whole-digits w f e = (and_parts (all_digits 10 w) (all_digits 10 f) (sym (digits_append w f) ∙ e)).0
 
 fraction-digits : (w f : List ℕ) → all_digits 10 (w ++ f) ≡ true → all_digits 10 f ≡ true
-fraction-digits w f e = and_right (all_digits 10 w) (all_digits 10 f) (sym (digits_append w f) ∙ e)
+fraction-digits w f e = (and_parts (all_digits 10 w) (all_digits 10 f) (sym (digits_append w f) ∙ e)).1
 
 unsigned-taken : (minus : Bool) (w f : List ℕ) → Digits w f → unsigned_of minus (w ++ point_of f) ≡ Some (nearest_to minus w f)
 unfolding unsigned_of

@@ -22,7 +22,7 @@ pub enum ExportRefusal {
 }
 
 impl ExportRefusal {
-    // The number that callers know an export's refusal by.
+    // The number that callers know an export's refusal by: document 02's table, case by case, since a variant that carries a line has no `as u64`.
     pub fn number(self) -> u64
         ensures { result ≡ export_refusal_number self }
     {
@@ -34,7 +34,8 @@ impl ExportRefusal {
 }
 
 // Every line is read, and nothing written: 14 comes first, then 15 where the entries are more than the lent places.
-// Counted by hand: `Entries` says which entries come, and not what is left behind the last, so its `count` leaves `returns` open.
+// Counted by hand. It is not `(&mut entries).count()`, which says nothing of what it leaves in `entries`: tried, and
+// `returns-then-not-is_empty` stays open, where what is left tells a malformed line from the end.
 #[tactic(auto, using(crate::proofs::Lines::judged))]
 fn judge(text: &[u8], places: usize) -> Result<usize, ExportRefusal>
     ensures { result ≡ answer_of places (export_of text.now) }
@@ -55,6 +56,8 @@ fn judge(text: &[u8], places: usize) -> Result<usize, ExportRefusal>
 }
 
 // The export read into two plain slices, a number and a value for each entry: how many entries there are.
+// Places go by `enumerate`. It is not `iter_mut().zip(Entries(text))`: tried in `read_history`, and `returns` stays open, since what is
+// in a place that the iterator lent has no name there that a proof may cite.
 #[tactic(auto, using(crate::proofs::Writes::writes))]
 pub fn read_history_slices(
     text: &[u8],
