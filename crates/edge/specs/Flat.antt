@@ -1,14 +1,14 @@
 -- The state in numbers, opened and flattened. What a number that names no case opens to is never used (`Known`).
-use Rattle.std.specs.Prelude.{ℕ, Bool, true, false, cond, List, map, eqb, Float, ℤ, pos, Option, Some, None, is_some, unwrap_or}
+use Rattle.std.specs.Prelude.{ℕ, Bool, true, false, cond, map, eqb, Float, ℤ, pos, Option, Some, None, is_some, unwrap_or}
 use Rattle.common.specs.Bounds.{zero_f}
 use Rattle.distribution.specs.declared.DimensionInfo.{DimensionInfo}
 use Rattle.distribution.specs.declared.Distribution.{Distribution}
 use Rattle.distribution.specs.declared.Distribution.TheVariants as D
 use Rattle.distribution.specs.declared.FloatDistribution.{FloatDistribution}
 use Rattle.distribution.specs.declared.IntDistribution.{IntDistribution}
-use Rattle.evolution.specs.Strategy.{strategy_number}
+use Rattle.evolution.specs.Strategy.{strategy_number, strategy_from}
 use Rattle.evolution.specs.declared.DEStrategy.{DEStrategy}
-use Rattle.evolution.specs.declared.DEStrategy.TheVariants.{Rand1, Best1, CurrentToBest1}
+use Rattle.evolution.specs.declared.DEStrategy.TheVariants.{CurrentToBest1}
 use Rattle.evolution.specs.declared.Setup.{Setup}
 use Rattle.state.specs.declared.State.{State}
 use Rattle.edge.specs.declared.flat.DeSetup.{DeSetup}
@@ -20,7 +20,7 @@ use Rattle.edge.specs.declared.flat.Opened.{Opened}
 
 -- 0 rand1, 1 best1, 2 current-to-best1
 abbrev pub strategy_of : ℕ → DEStrategy
-strategy_of k = cond (eqb k 0) Rand1 (cond (eqb k 1) Best1 CurrentToBest1)
+strategy_of k = unwrap_or (strategy_from k) CurrentToBest1
 
 -- what there may be: a flag, 0 where there is none and 1 where there is, and the value beside it
 abbrev pub option_of : {A : Type 0} → ℕ → A → Option A

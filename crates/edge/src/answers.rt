@@ -15,7 +15,7 @@ pub struct DeCall {
 }
 
 // kind: 0 refused, with document 01's number; 1 float, 2 int, 3 choice; 4 a number of the call or set-up names no case; 5 a
-// state is made; 6 there is no such slot or dimension.
+// state is made; 6 there is no such slot or dimension. Kind and refusal are numbers, since no enum can cross to C.
 #[repr(C)]
 #[derive(Clone, Copy)]
 pub struct DeAnswer {

@@ -3,13 +3,10 @@ ghost use Rattle.std.specs.Prelude.{◌≡◌};
 ghost use Rattle.edge.specs.Build.{settled_setup, fresh_flat};
 
 use crate::answers::DeAnswer;
-use crate::flat::{DeDistribution, DeSetup, DeState};
-use candidates::Candidate;
-use de::build::DESamplerBuilder;
-use distribution::{CategoricalDistribution, Distribution};
+use crate::flat::{DeSetup, DeState};
+use crate::flatten::flatten;
+use de::build::{DESamplerBuilder, new_state};
 use evolution::Setup;
-use selection::blank_member;
-use state::TrialProgress;
 
 // The set-up that a state is made from: only an accepted one.
 #[tactic(auto, unfolding(crate::specs::Build::settled_setup))]
@@ -21,30 +18,10 @@ pub fn settle_setup(setup: DeSetup) -> Result<Setup, DeAnswer>
     Ok(built)
 }
 
-// The fresh state in numbers, written out: a caller that only sets up has nothing to flatten.
+// The fresh state in numbers.
+#[tactic(auto, unfolding(crate::specs::Build::fresh_flat))]
 pub fn fresh(setup: Setup) -> DeState
     ensures { result ≡ fresh_flat setup }
 {
-    let blank = Distribution::Categorical(CategoricalDistribution { n_choices: 0 });
-    let t = TrialProgress {
-        number: 0,
-        next_dim: 0,
-    };
-    DeState {
-        setup: DeSetup::from(setup),
-        named: 0,
-        first: 0,
-        discovered: 0,
-        n: 0,
-        n_dims: 0,
-        dims: [DeDistribution::from(blank); 16],
-        candidates: [Candidate::blank(); 224],
-        parents: [blank_member(); 160],
-        n_trials: 0,
-        trials: [t; 224],
-        best: 0,
-        word: setup.seed,
-        closed: 0,
-        idle: 0,
-    }
+    flatten(new_state(setup))
 }

@@ -42,7 +42,7 @@ pub struct DeDistribution {
     pub n_choices: u64,
 }
 
-// `State` field by field. named: 0 no first trial yet, 1 `first` is its number. discovered: 0 or 1.
+// `State` field by field: C fills in any counts beside the arrays. named: 0 no first trial yet, 1 `first` is its number. discovered: 0 or 1.
 #[repr(C)]
 #[derive(Clone, Copy)]
 pub struct DeState {
@@ -91,22 +91,14 @@ fn flag(number: u64) -> Result<bool, Unnamed>
 fn option<T: Copy>(set: u64, value: T) -> Result<Option<T>, Unnamed>
     ensures { result ≡ named (leb set 1) (option_of set value) }
 {
-    match set {
-        0 => Ok(None),
-        1 => Ok(Some(value)),
-        _ => Err(Unnamed),
-    }
+    Ok(flag(set)?.then_some(value))
 }
 
+// The strategy that C's number stands for; any other number stands for none.
 pub fn open_strategy(strategy: u64) -> Result<DEStrategy, Unnamed>
     ensures { result ≡ named (leb strategy 2) (strategy_of strategy) }
 {
-    match strategy {
-        0 => Ok(DEStrategy::Rand1),
-        1 => Ok(DEStrategy::Best1),
-        2 => Ok(DEStrategy::CurrentToBest1),
-        _ => Err(Unnamed),
-    }
+    DEStrategy::from_number(strategy).ok_or(Unnamed)
 }
 
 impl TryFrom<DeSetup> for Setup {
@@ -158,16 +150,11 @@ impl TryFrom<DeDistribution> for Distribution {
 fn open_dims(flat: &[DeDistribution; 16]) -> Result<[DimensionInfo; 16], Unnamed>
     ensures { result ≡ named (all known_distribution flat.now) (map dim_of flat.now) }
 {
-    let blank = DimensionInfo {
-        distribution: Distribution::Categorical(CategoricalDistribution { n_choices: 0 }),
-    };
-    let mut dims = [blank; 16];
-    for (i, d) in flat.iter().enumerate() {
-        dims[i] = DimensionInfo {
-            distribution: Distribution::try_from(*d)?,
-        };
-    }
-    Ok(dims)
+    flat.try_map(|d| {
+        Ok(DimensionInfo {
+            distribution: Distribution::try_from(d)?,
+        })
+    })
 }
 
 // What the numbers of a state stand for; the rest of it is the same on both sides.

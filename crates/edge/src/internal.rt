@@ -1,6 +1,5 @@
 // `to_internal` in numbers.
 ghost use Rattle.std.specs.Prelude.{◌≡◌};
-ghost use Rattle.distribution.specs.Refusals.{refusal_number};
 ghost use Rattle.edge.specs.Known.{named};
 ghost use Rattle.edge.specs.Internal.{setting_of, known_setting, unknown_internal, refused_internal, value_of, internal_of};
 
@@ -8,7 +7,7 @@ use crate::flat::{DeDistribution, Unnamed};
 use common::to_internal;
 use distribution::{Distribution, ParamValue, Refusal};
 
-// kind: 1 real, 2 whole, 3 choice.
+// kind: 1 real, 2 whole, 3 choice. A number, since no enum can cross to C.
 #[repr(C)]
 #[derive(Clone, Copy)]
 pub struct DeSetting {
@@ -18,7 +17,8 @@ pub struct DeSetting {
     pub choice: u64,
 }
 
-// kind: 0 refused, with document 01's number; 1 value; 4 a number names no case.
+// kind: 0 refused, with document 01's number; 1 value; 4 a number names no case. Numbers, since no enum
+// can cross to C. Spelt out where it is made: a blank one would save a word or two of three.
 #[repr(C)]
 #[derive(Clone, Copy)]
 pub struct DeInternal {

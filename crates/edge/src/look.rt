@@ -6,7 +6,8 @@ use crate::flat::{DeState, Opened, open};
 use distribution::Refusal;
 use slots::{Looked, look};
 
-// kind: 0 refused, with document 01's number; 1 nothing yet; 2 best is the best slot, and the first n values are the slots'.
+// No enum crosses to C, nor a list. kind: 0 refused, with document 01's number; 1 nothing yet; 2 best is the best slot, and the first n
+// values are the slots'.
 #[repr(C)]
 #[derive(Clone, Copy)]
 pub struct DeLook {

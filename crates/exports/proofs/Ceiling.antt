@@ -10,7 +10,7 @@ use Rattle.ledger.specs.State as Plain
 use Rattle.ledger.specs.State.{Returned}
 use Rattle.kernel.specs.De.{de}
 use Rattle.state.specs.declared.State.{State}
-use Rattle.state.proofs.Flags.{true-and}
+use Rattle.std.proofs.lemmas.Bool.{and_parts}
 use Rattle.de.specs.Ceiling.{draw_ceiling, ceiling_for, most_draws}
 use Rattle.de.proofs.DrawCeiling.{draw-ceiling}
 use Rattle.de.proofs.CallCeiling.{call-ceiling, never-more, ahead-ceiling}
@@ -47,9 +47,9 @@ flat-ceiling draws s h = rw (strategy-known s.setup.strategy, strategy-back s.se
 known-strategy : (f : DeState) → known_state f ≡ true → leb f.setup.strategy 2 ≡ true
 unfolding known_with known_setup
 known-strategy f k =
-    let flags = (true-and (known_setup f.setup && leb f.named 1 && leb f.discovered 1) _ k).0 in
-    let named = (true-and (known_setup f.setup && leb f.named 1) _ flags).0 in
-    (true-and (leb f.setup.strategy 2) _ (true-and (known_setup f.setup) _ named).0).0
+    let flags = (and_parts (known_setup f.setup && leb f.named 1 && leb f.discovered 1) _ k).0 in
+    let named = (and_parts (known_setup f.setup && leb f.named 1) _ flags).0 in
+    (and_parts (leb f.setup.strategy 2) _ (and_parts (known_setup f.setup) _ named).0).0
 
 -- ---- THE THEOREMS
 

@@ -29,6 +29,7 @@ use Rattle.edge.specs.Flat.{bit, strategy_of, option_of, setup_of, flat_setup, f
 use Rattle.edge.specs.Known.{known_setup, known_distribution, known_with, known_state}
 use Rattle.edge.specs.declared.answers.DeAnswer.{DeAnswer}
 use Rattle.edge.specs.Answers.{bare_answer, unknown, answered, settled_of, told}
+use Rattle.edge.proofs.Settled.{unknown-stores-nothing}
 use Rattle.exports.specs.Calls.{sampled_from, settled_sample, sample_answer, sample_state}
 
 -- ---- the parts
@@ -188,8 +189,9 @@ module _ (f : DeState) (h : List CompletedTrial) where
 
   module _ (c : DeCall) (k : known_distribution c.distribution ≡ false) where
     settled-unknown : settled_sample f c h ≡ Err unknown
-    unfolding settled_of
-    settled-unknown = ap (λ (b : Bool). settled_of b (known_state f) (sampled_from f c h).answer (sampled_from f c h).draws) k
+    settled-unknown =
+        ap (λ (b : Bool). settled_of b (known_state f) (sampled_from f c h).answer (sampled_from f c h).draws) k
+        ∙ unknown-stores-nothing (known_state f) (sampled_from f c h).answer (sampled_from f c h).draws
 
     pub unknown-answer : sample_answer f c h ≡ bare_answer 4 0
     unfolding sample_answer

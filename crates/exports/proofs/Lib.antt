@@ -1,4 +1,3 @@
-pub mod Stored
 pub mod Edge
 pub mod Demand
 pub mod Ceiling

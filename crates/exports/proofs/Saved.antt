@@ -1,6 +1,6 @@
 -- TUNING THAT SURVIVES A RESTART, OF THE LIBRARY (W2): a memory that was saved is restored to any other, and the calls after it are answered as before it. It is `survives` of the crate saved, since
 -- opening what was flattened gives the state back, and what a memory stands for alone decides what a call answers.
-use Rattle.std.specs.Prelude.{Result, Ok, Err, is_ok, ⊤}
+use Rattle.std.specs.Prelude.{Result, Ok, Err, is_ok}
 use Prim.Native.Nat.{ℕ}
 use native.Mathlib.Omega.{arith}
 use mathlib.Core.Path.{◌≡◌, refl, sym, ap, ◌∙◌}
@@ -11,8 +11,6 @@ use denote.Laws.{Is}
 use lib.ListN.{length, take, drop}
 use Rattle.distribution.specs.declared.Refusal.TheVariants.{StateNotSound}
 use Rattle.state.specs.declared.State.{State}
-use Rattle.slots.specs.Held.{held_of}
-use Rattle.slots.specs.Look.{look_of}
 use Rattle.de.specs.Sample.{sample_of}
 use Rattle.saved.specs.Restore.{taken, state_read, restore_of}
 use Rattle.saved.specs.Save.{save_of, saved_in}
@@ -21,7 +19,7 @@ use Rattle.saved.specs.declared.Restored.{Restored}
 use Rattle.saved.proofs.Contracts.{past-untouched, refused-untouched}
 use Rattle.saved.proofs.Survives.{survives}
 use Rattle.edge.specs.contracts.flat.DeState as F
-use Rattle.edge.specs.Answers.{bare_answer, settled_of, told}
+use Rattle.edge.specs.Answers.{settled_of, told}
 use Rattle.files.specs.File.{refused_file, saved_answer, save_answer, save_file, restored_answer}
 use Rattle.edge.specs.Flat.{open_of, flat_of, distribution_of}
 use Rattle.edge.specs.Held.{held_at, held_by, held_answer}

@@ -1,25 +1,21 @@
 -- What the type of a memory says, said of the state that it stands for: a DeState of the machine's numbers opens to a State of the machine's numbers.
 use Rattle.std.specs.Prelude.{Some, None}
-use Prim.Native.Nat.{ℕ, ◌^◌, ◌<◌}
 use mathlib.Core.Path.{refl, ◌∙◌}
 use mathlib.Core.Bool.{Bool, true, false, cond}
 use mathlib.Core.List.{List, [], ◌∷◌, ◌++◌, map}
 use lib.Dec.{eqb}
-use lib.Ieee.{Float}
-use lib.IntN.{ℤ}
 use lib.ListN.{length-map}
-use mir.Syntax.{w64}
-use mir.Val.{Val, vint, vbool, vstruct, of_list}
+use mir.Val.{Val, vbool, vstruct, of_list}
 use types.Match.{live}
 use denote.Array.{each, array_val}
 use denote.Builtin.{Array, f64, i64, u64}
 use denote.Enum.Declared as E
 use denote.Enum.Enum.{payload}
 use denote.Laws.{Is}
-use denote.RattleType.{Valss, flat}
+use denote.RattleType.{RattleType, Valss, flat}
 use denote.Shadow.{shadow}
 use denote.Struct.Declared as D
-use denote.Struct.Field.{Field, f64-field, i64-field}
+use denote.Struct.Field.{Field}
 use denote.Struct.Struct.{AreAll}
 use Rattle.std.specs.contracts.option.Option as O
 use Rattle.distribution.specs.contracts.CategoricalDistribution as CD
@@ -30,12 +26,13 @@ use Rattle.distribution.specs.contracts.IntDistribution as ID
 use Rattle.distribution.specs.declared.Distribution.TheVariants.{Float as FloatD, Int as IntD, Categorical}
 use Rattle.evolution.specs.contracts.DEStrategy as ST
 use Rattle.evolution.specs.contracts.Setup as SU
+use Rattle.evolution.specs.declared.DEStrategy.{DEStrategy}
 use Rattle.evolution.specs.declared.DEStrategy.TheVariants.{Rand1, Best1, CurrentToBest1}
 use Rattle.state.specs.contracts.State as S
 use Rattle.edge.specs.contracts.flat.DeDistribution as FlatD
 use Rattle.edge.specs.contracts.flat.DeSetup as FlatU
 use Rattle.edge.specs.contracts.flat.DeState as F
-use Rattle.edge.specs.Flat.{setup_of, float_of, int_of, distribution_of, dim_of, open_with, open_of}
+use Rattle.edge.specs.Flat.{strategy_of, setup_of, float_of, int_of, distribution_of, dim_of, open_with, open_of}
 use Rattle.edge.specs.declared.flat.DeDistribution.{DeDistribution}
 use Rattle.edge.specs.declared.flat.DeSetup.{DeSetup}
 use Rattle.edge.specs.declared.flat.DeState.{DeState}
@@ -51,39 +48,28 @@ struct-fits T d vss h = (vstruct (of_list (flat (D.fields T) vss)), (vss, (refl,
 enum-fits : (T : E.Declared) (d : T.D) (us : List Val) → shadow (payload (E.variants T) (T.to d) us) → Fits (E.field T) d
 enum-fits T d us h = (live (E.tag_of T d) (of_list us), (us, (refl, h)))
 
+-- of an option by what it holds, where b does not say that it holds nothing
+option-fits : (R : RattleType) (b : Bool) (x : R.Denot) (vs : List Val) → Is R x vs → Fits (O.the_field R) (cond b None (Some x))
+option-fits R true x vs p = enum-fits (O.the_type R) None [] (tt, (refl, tt))
+option-fits R false x vs p = enum-fits (O.the_type R) (Some x) (vs ++ []) ((vs, tt), (refl, (p, tt)))
+
 -- ---- the set-up
 
-strategy : (a b : Bool) → Fits ST.the_field (cond a Rand1 (cond b Best1 CurrentToBest1))
-strategy true b = enum-fits ST.the_type Rand1 [] (tt, (refl, tt))
-strategy false true = enum-fits ST.the_type Best1 [] (tt, (refl, tt))
-strategy false false = enum-fits ST.the_type CurrentToBest1 [] (tt, (refl, tt))
-
-size : (b : Bool) (n : ℕ) → n < 2 ^ 64 → Fits (O.the_field u64) (cond b None (Some n))
-size true n h = enum-fits (O.the_type u64) None [] (tt, (refl, tt))
-size false n h = enum-fits (O.the_type u64) (Some n) (vint w64 n ∷ []) ((vint w64 n ∷ [], tt), (refl, ((refl, h), tt)))
+strategy : (t : DEStrategy) → Fits ST.the_field t
+strategy Rand1 = enum-fits ST.the_type Rand1 [] (tt, (refl, tt))
+strategy Best1 = enum-fits ST.the_type Best1 [] (tt, (refl, tt))
+strategy CurrentToBest1 = enum-fits ST.the_type CurrentToBest1 [] (tt, (refl, tt))
 
 pub setup : (u : DeSetup) (vs : List Val) → Is (FlatU.the_field).row ((FlatU.the_field).into u) vs → Fits SU.the_field (setup_of u)
 unfolding setup_of
 setup u vs p =
     let a = p.0 in
     let q = p.1.1 in
-    let t = strategy (eqb u.strategy 0) (eqb u.strategy 1) in
-    let z = size (eqb u.sized 0) u.population_size q.1.1.1.1.0.1 in
+    let t = strategy (strategy_of u.strategy) in
+    let z = option-fits u64 (eqb u.sized 0) u.population_size _ q.1.1.1.1.0 in
     struct-fits SU.the_type (setup_of u) (a.0, (a.1.0, (t.0 ∷ [], (z.0 ∷ [], a.1.1.1.1.1)))) (q.0, (q.1.0, (t.1, (z.1, q.1.1.1.1.1))))
 
-first : (b : Bool) (n : ℕ) → n < 2 ^ 64 → Fits (O.the_field u64) (cond b None (Some n))
-first true n h = enum-fits (O.the_type u64) None [] (tt, (refl, tt))
-first false n h = enum-fits (O.the_type u64) (Some n) (vint w64 n ∷ []) ((vint w64 n ∷ [], tt), (refl, ((refl, h), tt)))
-
 -- ---- a dimension
-
-float-step : (b : Bool) (x : Float) (vs : List Val) → Is f64-field.row x vs → Fits (O.the_field f64) (cond b None (Some x))
-float-step true x vs p = enum-fits (O.the_type f64) None [] (tt, (refl, tt))
-float-step false x vs p = enum-fits (O.the_type f64) (Some x) (vs ++ []) ((vs, tt), (refl, (p, tt)))
-
-int-step : (b : Bool) (x : ℤ) (vs : List Val) → Is i64-field.row x vs → Fits (O.the_field i64) (cond b None (Some x))
-int-step true x vs p = enum-fits (O.the_type i64) None [] (tt, (refl, tt))
-int-step false x vs p = enum-fits (O.the_type i64) (Some x) (vs ++ []) ((vs, tt), (refl, (p, tt)))
 
 module _ (d : DeDistribution) (vs : List Val) (p : Is (FlatD.the_field).row ((FlatD.the_field).into d) vs) where
   abbrev a : Valss (D.fields FlatD.the_type)
@@ -95,12 +81,12 @@ module _ (d : DeDistribution) (vs : List Val) (p : Is (FlatD.the_field).row ((Fl
 
   float : Fits FD.the_field (float_of d)
   float =
-      let s = float-step (eqb d.stepped 0) d.step _ q.1.1.1.1.1.1.1.0 in
+      let s = option-fits f64 (eqb d.stepped 0) d.step _ q.1.1.1.1.1.1.1.0 in
       struct-fits FD.the_type (float_of d) (a.1.0, (a.1.1.0, (vbool (eqb d.log_scale 1) ∷ [], (s.0 ∷ [], tt)))) (q.1.0, (q.1.1.0, (refl, (s.1, tt))))
 
   int : Fits ID.the_field (int_of d)
   int =
-      let s = int-step (eqb d.stepped 0) d.whole_step _ q.1.1.1.1.1.1.1.1.0 in
+      let s = option-fits i64 (eqb d.stepped 0) d.whole_step _ q.1.1.1.1.1.1.1.1.0 in
       struct-fits ID.the_type (int_of d) (a.1.1.1.0, (a.1.1.1.1.0, (vbool (eqb d.log_scale 1) ∷ [], (s.0 ∷ [], tt)))) (q.1.1.1.0, (q.1.1.1.1.0, (refl, (s.1, tt))))
 
   choice : Fits CD.the_field (record { n_choices = d.n_choices })
@@ -141,7 +127,7 @@ opened-typed f us p =
     let a = p.0 in
     let q = p.1.1 in
     let u = setup f.setup _ q.0 in
-    let t = first (eqb f.named 0) f.first q.1.1.0.1 in
+    let t = option-fits u64 (eqb f.named 0) f.first _ q.1.1.0 in
     let ds = dims f.dims _ q.1.1.1.1.1.1.0 in
     struct-fits S.the_type (open_of f)
     (u.0 ∷ [], (t.0 ∷ [], (vbool (eqb f.discovered 1) ∷ [], (a.1.1.1.1.0, (a.1.1.1.1.1.0, (ds.0 ∷ [], a.1.1.1.1.1.1.1))))))

@@ -22,8 +22,8 @@ use edge::flatten::flatten;
 use edge::held::held_at;
 use edge::internal::{DeInternal, DeSetting, internal_of};
 use edge::look::{DeLook, look_at};
-use files::file::{DeFile, refused_file, restored_file, save_at};
-use files::read::{DeRead, read_answer};
+use files::file::{DeFile, save_at};
+use files::read::DeRead;
 use history::CompletedTrial;
 use layout::marks::{DeMarks, marked};
 use metrics::read_history;
@@ -89,8 +89,8 @@ pub fn de_to_internal(distribution: DeDistribution, setting: DeSetting) -> DeInt
     internal_of(distribution, setting)
 }
 
-// What a sample call draws at most that leaves n, n_dims and the set-up's strategy in the state. No state that is sound has
-// another strategy, and there it is 0.
+// What a sample call draws at most that leaves n, n_dims and the set-up's strategy in the state. The strategy is a number, since no
+// enum can cross to C; no state that is sound has another than the three, and there it is 0.
 #[tactic(auto, unfolding(crate::specs::Ceiling::ceiling_at))]
 pub fn de_draw_ceiling(n: u64, n_dims: u64, strategy: u64) -> u64
     ensures { result ≡ ceiling_at n n_dims strategy }
@@ -116,9 +116,9 @@ pub fn de_restore(state: &mut DeState, file: &[u8]) -> DeFile
     match read(file) {
         Ok(kept) => {
             *state = flatten(kept);
-            restored_file()
+            DeFile::restored()
         }
-        Err(why) => refused_file(why),
+        Err(why) => DeFile::from(why),
     }
 }
 
@@ -126,8 +126,7 @@ pub fn de_restore(state: &mut DeState, file: &[u8]) -> DeFile
 pub fn de_read_history(text: &[u8], history: &mut [CompletedTrial]) -> DeRead
     ensures { (result ≡ read_answer text.now (length history.old)) × (history.new ≡ read_history text.now history.old) }
 {
-    let answer = read_history(text, history);
-    read_answer(answer)
+    DeRead::from(read_history(text, history))
 }
 
 // The layout that the library has.

@@ -1,4 +1,6 @@
 // The archive for callers in C and Rust (include/emkhurtov.h): each function of `exports` under its own name.
+// The ten stand twice, since a crate is a library or a static library and not both (docs/DECISIONS.md). A strategy is a number here,
+// since no enum can cross to C.
 #![tactic(auto)]
 
 ghost use Rattle.std.specs.Prelude.{◌≡◌, length};

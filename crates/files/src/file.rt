@@ -6,6 +6,7 @@ use edge::flat::{DeState, Opened, open};
 use saved::{FileRefusal, save};
 
 // kind: 0 refused, by check 12 or 13; 1 saved, in a file of `length` bytes; 2 restored. Fields that a kind does not use are 0.
+// Kind and refusal are numbers, since no enum can cross to C.
 #[repr(C)]
 #[derive(Clone, Copy)]
 pub struct DeFile {
@@ -14,26 +15,44 @@ pub struct DeFile {
     pub length: u64,
 }
 
-pub fn refused_file(why: FileRefusal) -> DeFile
-    ensures { result ≡ refused_file why }
-{
-    DeFile {
-        kind: 0,
-        refusal: why.number(),
-        length: 0,
+impl DeFile {
+    // The answer to a restore call whose file is taken.
+    pub fn restored() -> Self
+        ensures { result ≡ restored_file }
+    {
+        DeFile {
+            kind: 2,
+            refusal: 0,
+            length: 0,
+        }
     }
 }
 
-fn saved_answer(answer: Result<usize, FileRefusal>) -> DeFile
-    ensures { result ≡ saved_answer answer }
-{
-    match answer {
-        Ok(n) => DeFile {
-            kind: 1,
-            refusal: 0,
-            length: n as u64,
-        },
-        Err(why) => refused_file(why),
+impl From<FileRefusal> for DeFile {
+    ghost from_gives = { λ why file. file ≡ refused_file why };
+
+    fn from(why: FileRefusal) -> Self {
+        DeFile {
+            kind: 0,
+            refusal: why.number(),
+            length: 0,
+        }
+    }
+}
+
+// What a save call answers.
+impl From<Result<usize, FileRefusal>> for DeFile {
+    ghost from_gives = { λ answer file. file ≡ saved_answer answer };
+
+    fn from(answer: Result<usize, FileRefusal>) -> Self {
+        match answer {
+            Ok(n) => DeFile {
+                kind: 1,
+                refusal: 0,
+                length: n as u64,
+            },
+            Err(why) => DeFile::from(why),
+        }
     }
 }
 
@@ -45,20 +64,8 @@ pub fn save_at(s: &DeState, file: &mut [u8]) -> DeFile
     match Opened::try_from(s) {
         Ok(opened) => {
             let state = open(s, opened);
-            let answer = save(&state, file);
-            saved_answer(answer)
+            DeFile::from(save(&state, file))
         }
-        Err(_) => refused_file(FileRefusal::BadContent),
-    }
-}
-
-// The answer to a restore call whose file is taken.
-pub fn restored_file() -> DeFile
-    ensures { result ≡ restored_file }
-{
-    DeFile {
-        kind: 2,
-        refusal: 0,
-        length: 0,
+        Err(_) => DeFile::from(FileRefusal::BadContent),
     }
 }

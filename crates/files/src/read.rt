@@ -5,7 +5,7 @@ ghost use Rattle.files.specs.Read.{line_in, read_in};
 use metrics::ExportRefusal;
 
 // kind: 0 refused, by check 14 with the malformed line's number, or by 15; 1 read, `count` entries. Fields that a kind does
-// not use are 0.
+// not use are 0. Kind and refusal are numbers, since no enum can cross to C.
 #[repr(C)]
 #[derive(Clone, Copy)]
 pub struct DeRead {
@@ -24,21 +24,23 @@ fn line_of(why: ExportRefusal) -> u64
     }
 }
 
-pub fn read_answer(answer: Result<usize, ExportRefusal>) -> DeRead
-    ensures { result ≡ read_in answer }
-{
-    match answer {
-        Ok(n) => DeRead {
-            kind: 1,
-            refusal: 0,
-            count: n as u64,
-            line: 0,
-        },
-        Err(why) => DeRead {
-            kind: 0,
-            refusal: why.number(),
-            count: 0,
-            line: line_of(why),
-        },
+impl From<Result<usize, ExportRefusal>> for DeRead {
+    ghost from_gives = { λ answer read. read ≡ read_in answer };
+
+    fn from(answer: Result<usize, ExportRefusal>) -> Self {
+        match answer {
+            Ok(n) => DeRead {
+                kind: 1,
+                refusal: 0,
+                count: n as u64,
+                line: 0,
+            },
+            Err(why) => DeRead {
+                kind: 0,
+                refusal: why.number(),
+                count: 0,
+                line: line_of(why),
+            },
+        }
     }
 }

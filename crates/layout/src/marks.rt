@@ -6,8 +6,9 @@ ghost use Rattle.std.specs.Prelude.{◌≡◌, ◌-◌, ◌≤◌};
 ghost use Rattle.layout.specs.Marks.{ends, marked_state, marked_call, marks};
 
 use crate::numbered::{
-    answer_marks, candidate_marks, completed_marks, distribution_marks, file_marks, internal_marks,
-    look_marks, member_marks, progress_marks, read_marks, setting_marks, setup_marks,
+    answer_marks, at_ends, candidate_marks, completed_marks, distribution_marks, file_marks,
+    internal_marks, look_marks, member_marks, progress_marks, read_marks, setting_marks,
+    setup_marks,
 };
 use candidates::Candidate;
 use edge::answers::{DeAnswer, DeCall};
@@ -47,15 +48,12 @@ pub struct DeMarks {
     pub after_read: u64,
 }
 
-// Blank items, but for the first and the last.
-fn at_ends<T: Copy, const N: usize>(blank: T, mark: T) -> [T; N]
+// Blank items, but for the first and the last, which are marked alike.
+fn marked_ends<T: Copy, const N: usize>(blank: T, mark: T) -> [T; N]
     requires { 1 ≤ N }
     ensures { result ≡ ends N blank (N - 1) mark mark }
 {
-    let mut items = [blank; N];
-    items[0] = mark;
-    items[N - 1] = mark;
-    items
+    at_ends(blank, mark, mark)
 }
 
 #[tactic(auto, unfolding(crate::specs::Marks::marked_state))]
@@ -69,11 +67,11 @@ fn marked_state() -> DeState
         discovered: 3,
         n: 4,
         n_dims: 5,
-        dims: at_ends(DeDistribution::none(), distribution_marks()),
-        candidates: at_ends(Candidate::blank(), candidate_marks()),
-        parents: at_ends(blank_member(), member_marks()),
+        dims: marked_ends(DeDistribution::none(), distribution_marks()),
+        candidates: marked_ends(Candidate::blank(), candidate_marks()),
+        parents: marked_ends(blank_member(), member_marks()),
         n_trials: 6,
-        trials: at_ends(TrialProgress::blank(), progress_marks()),
+        trials: marked_ends(TrialProgress::blank(), progress_marks()),
         best: 7,
         word: 8,
         closed: 9,
@@ -84,10 +82,9 @@ fn marked_state() -> DeState
 fn marked_call() -> DeCall
     ensures { result ≡ marked_call }
 {
-    let distribution = distribution_marks();
     DeCall {
         trial: 1,
-        distribution,
+        distribution: distribution_marks(),
     }
 }
 
@@ -95,39 +92,28 @@ fn marked_call() -> DeCall
 pub fn marked() -> DeMarks
     ensures { result ≡ marks }
 {
-    let setup = setup_marks();
-    let distribution = distribution_marks();
-    let call = marked_call();
-    let look = look_marks();
-    let state = marked_state();
-    let answer = answer_marks();
-    let setting = setting_marks();
-    let internal = internal_marks();
-    let trial = completed_marks();
-    let file = file_marks();
-    let read = read_marks();
     DeMarks {
-        setup,
+        setup: setup_marks(),
         after_setup: 1,
-        distribution,
+        distribution: distribution_marks(),
         after_distribution: 2,
-        call,
+        call: marked_call(),
         after_call: 3,
-        answer,
+        answer: answer_marks(),
         after_answer: 4,
-        look,
+        look: look_marks(),
         after_look: 5,
-        setting,
+        setting: setting_marks(),
         after_setting: 6,
-        internal,
+        internal: internal_marks(),
         after_internal: 7,
-        trial,
+        trial: completed_marks(),
         after_trial: 8,
-        state,
+        state: marked_state(),
         after_state: 9,
-        file,
+        file: file_marks(),
         after_file: 10,
-        read,
+        read: read_marks(),
         after_read: 11,
     }
 }

@@ -1,6 +1,7 @@
 // The small structs that cross, each with its own fields numbered from 1 on in the order of declaration (specs/Marks).
-ghost use Rattle.std.specs.Prelude.{◌≡◌};
-ghost use Rattle.layout.specs.Marks.{setup_marks, distribution_marks, candidate_marks, member_marks, progress_marks, look_marks, answer_marks, setting_marks, internal_marks, completed_marks, file_marks, read_marks};
+// Each is a literal that names every field of a C struct. None takes its rest from a blank of `edge`: every value here is another.
+ghost use Rattle.std.specs.Prelude.{◌≡◌, ◌-◌, ◌≤◌};
+ghost use Rattle.layout.specs.Marks.{ends, setup_marks, distribution_marks, candidate_marks, member_marks, progress_marks, look_marks, answer_marks, setting_marks, internal_marks, completed_marks, file_marks, read_marks};
 
 use candidates::Candidate;
 use edge::answers::DeAnswer;
@@ -12,6 +13,17 @@ use files::file::DeFile;
 use files::read::DeRead;
 use history::CompletedTrial;
 use state::TrialProgress;
+
+// Blank items, but for the first and the last.
+pub(crate) fn at_ends<T: Copy, const N: usize>(blank: T, first: T, last: T) -> [T; N]
+    requires { 1 ≤ N }
+    ensures { result ≡ ends N blank (N - 1) first last }
+{
+    let mut items = [blank; N];
+    items[0] = first;
+    items[N - 1] = last;
+    items
+}
 
 #[tactic(auto, using(crate::proofs::Reals::reals), unfolding(crate::specs::Marks::setup_marks))]
 pub fn setup_marks() -> DeSetup
@@ -49,22 +61,18 @@ pub fn distribution_marks() -> DeDistribution
 pub fn candidate_marks() -> Candidate
     ensures { result ≡ candidate_marks }
 {
-    let mut x = [0.0f64; 16];
-    let mut choices = [0u16; 16];
-    x[0] = 1.0;
-    x[15] = 2.0;
-    choices[0] = 3;
-    choices[15] = 4;
-    Candidate { x, choices }
+    Candidate {
+        x: at_ends(0.0, 1.0, 2.0),
+        choices: at_ends(0, 3, 4),
+    }
 }
 
 #[tactic(auto, using(crate::proofs::Reals::reals), unfolding(crate::specs::Marks::member_marks))]
 pub fn member_marks() -> Member
     ensures { result ≡ member_marks }
 {
-    let candidate = candidate_marks();
     Member {
-        candidate,
+        candidate: candidate_marks(),
         value: 1.0,
     }
 }
@@ -82,9 +90,6 @@ pub fn progress_marks() -> TrialProgress
 pub fn look_marks() -> DeLook
     ensures { result ≡ look_marks }
 {
-    let mut values = [0.0f64; 160];
-    values[0] = 7.0;
-    values[159] = 8.0;
     DeLook {
         kind: 1,
         refusal: 2,
@@ -92,7 +97,7 @@ pub fn look_marks() -> DeLook
         n: 4,
         closed: 5,
         idle: 6,
-        values,
+        values: at_ends(0.0, 7.0, 8.0),
     }
 }
 

@@ -15,7 +15,7 @@ use Rattle.edge.specs.declared.answers.DeAnswer.{DeAnswer}
 use Rattle.edge.specs.declared.answers.DeCall.{DeCall}
 use Rattle.edge.specs.declared.flat.DeState.{DeState}
 use Rattle.edge.specs.declared.flat.Opened.{Opened}
-use Rattle.exports.specs.Calls.{sampled_from, settled_sample, sample_state}
+use Rattle.exports.specs.Calls.{sampled_from, sample_state}
 use Rattle.exports.proofs.sampled.Goals as goal
 
 record Asked (f : DeState) (c : DeCall) (q : Opened × Distribution) : Type 0 where
