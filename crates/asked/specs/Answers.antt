@@ -8,7 +8,6 @@ use Rattle.de.specs.Sample.{sample_of}
 use Rattle.history.specs.declared.CompletedTrial.{CompletedTrial}
 use Rattle.kernel.specs.De.{de}
 use Rattle.ledger.specs.State as Plain
-use Rattle.ledger.specs.State.{Returned}
 use Rattle.printed.specs.Rows.{setting_text, rows_text, best_text}
 use Rattle.printed.specs.Whole.{state_text}
 use Rattle.saved.specs.Restore.{file_refusal_number, state_read}

@@ -1,5 +1,5 @@
 -- What the lines that ask something do to the state, the history and the kept file.
-use Rattle.std.specs.Prelude.{ℕ, Bool, true, false, cond, not, is_some, is_ok, List, [], ◌≡◌, Option, Some, None, Result, Ok, Err, IfErr, OnOk, ⊤, IsTrue, ◌↔◌}
+use Rattle.std.specs.Prelude.{ℕ, Bool, false, cond, not, is_some, is_ok, List, [], ◌≡◌, Option, Some, None, Result, Ok, Err, IfErr, OnOk, ⊤, IsTrue, ◌↔◌}
 use Rattle.std.specs.Io.KnownBytes.{Appends}
 use Rattle.de.specs.Build.{built_of, fresh_state}
 use Rattle.de.specs.Sample.{sample_of}

@@ -105,21 +105,17 @@ impl<W: Write> Session<W> {
     fn sample(&mut self, number: u64, distribution: Distribution, told: &Told) -> Result<(), Stop>
         ensures { Obeyed self.old told.now (Sample number distribution) self.new told.now result }
     {
-        let Some(state) = &mut self.state else {
-            return Err(Stop::Malformed);
-        };
+        let state = self.state.as_mut().ok_or(Stop::Malformed)?;
         let sampled = sample(*state, distribution, number, told.history.as_slice());
         *state = sampled.state;
         self.answer(sampled.answer, sampled.draws)
     }
 
-    // A look line, where there is a state.
+    // A look line, where there is a state. `told` is lent to each of these, read or not: one clause, `Obeyed`, speaks of both.
     fn look(&mut self, told: &Told) -> Result<(), Stop>
         ensures { Obeyed self.old told.now Look self.new told.now result }
     {
-        let Some(state) = &self.state else {
-            return Err(Stop::Malformed);
-        };
+        let state = self.state.as_ref().ok_or(Stop::Malformed)?;
         let looked = look(state);
         match looked.look {
             Ok(Some(best)) => {
@@ -139,9 +135,7 @@ impl<W: Write> Session<W> {
     fn show(&mut self, told: &Told) -> Result<(), Stop>
         ensures { Obeyed self.old told.now Show self.new told.now result }
     {
-        let Some(state) = &self.state else {
-            return Err(Stop::Malformed);
-        };
+        let state = self.state.as_ref().ok_or(Stop::Malformed)?;
         let whole = Whole(state);
         write!(self.sink, "{whole}")?;
         Ok(())
@@ -151,9 +145,7 @@ impl<W: Write> Session<W> {
     fn save(&mut self, told: &mut Told) -> Result<(), Stop>
         ensures { Obeyed self.old told.old Save self.new told.new result }
     {
-        let Some(state) = &self.state else {
-            return Err(Stop::Malformed);
-        };
+        let state = self.state.as_ref().ok_or(Stop::Malformed)?;
         match save_to(state, &mut told.file) {
             Ok(length) => {
                 writeln!(self.sink, "saved {length}")?;

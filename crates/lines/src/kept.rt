@@ -10,9 +10,9 @@ use script::put_bytes;
 pub type Kept = Filled<u8, 81920>;
 
 // Makes the kept file so many zero bytes, where there is a place for them.
-pub fn make(file: &mut Kept, length: u64) -> Result<(), Stop>
-    ensures value { result ≡ made_to length }
-    ensures after { file.new ≡ file_made length file.old }
+pub fn make<const N: usize>(file: &mut Filled<u8, N>, length: u64) -> Result<(), Stop>
+    ensures value { result ≡ made_to N length }
+    ensures after { file.new ≡ file_made N length file.old }
 {
     let n = length as usize;
     if n > file.items.len() {
@@ -24,7 +24,7 @@ pub fn make(file: &mut Kept, length: u64) -> Result<(), Stop>
 }
 
 // Overwrites bytes of the kept file by those of the line, where they end within it.
-pub fn put(file: &mut Kept, line: &[u8], at: u64) -> Result<(), Stop>
+pub fn put<const N: usize>(file: &mut Filled<u8, N>, line: &[u8], at: u64) -> Result<(), Stop>
     ensures value { result ≡ put_to at (put_bytes line.now) file.old }
     ensures after { file.new ≡ put_into at (put_bytes line.now) file.old }
 {

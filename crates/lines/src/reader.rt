@@ -1,4 +1,4 @@
-// A reader, a line at a time. `BufReader` would keep its buffer on the heap, which this program does without.
+// A reader, a line at a time. A `BufReader` has its buffer on the heap, and there may be no room for it: `new` here cannot fail.
 ghost use Rattle.std.specs.Prelude.{◌≡◌, ◌≤◌, IfOk, IfSome, length};
 
 use crate::Stop;
@@ -14,6 +14,7 @@ pub struct Reader<R> {
     input: [u8; 65536],
     at: usize,
     end: usize,
+    // No `Filled`: tried, and `returns-in-Some-eq10`, that the line that it lends has at most 512 bytes, stays open.
     text: [u8; LONGEST],
     // So many lines have begun.
     pub line: u64,

@@ -13,9 +13,6 @@ pub record Cut (bytes : List ℕ) (rows : List (List ℕ)) (rest : List ℕ) : T
   pub left : rest ≡ drop (length rows * 32) bytes
   pub count : length rows + chunk_count (length rest) 32 ≡ chunk_count (length bytes) 32
 
-pub cut-none : (bytes : List ℕ) → Cut bytes [] bytes
-cut-none bytes = record { come = refl; left = refl; count = omega arith }
-
 past : (n : ℕ) (row more : List ℕ) → length row ≡ min n (length (row ++ more)) → more ≡ drop n (row ++ more)
 past n row [] h = sym (drop_of_length-le (row ++ []) (omega (arith, length-append row [])))
 past n row (b ∷ more) h = sym (drop_at row (b ∷ more) n (omega (arith, length-append row (b ∷ more))))
@@ -39,8 +36,3 @@ module _ (bytes : List ℕ) (rows : List (List ℕ)) (rest : List ℕ) (now : Cu
             ∙ ap (λ (n : ℕ). drop n bytes) next;
         count = omega (arith, now.count, ap length e, length-append row more, size, long);
       }
-
-pub cut-all : (bytes : List ℕ) (rows : List (List ℕ)) (rest : List ℕ) → Cut bytes rows rest → length rest ≡ 0 → rows ≡ map (slice_chunk bytes 32) (range_with_len 0 (chunk_count (length bytes) 32))
-cut-all bytes rows rest now h =
-    let k : length rows ≡ chunk_count (length bytes) 32 = omega (arith, now.count) in
-    now.come ∙ ap (λ (n : ℕ). map (slice_chunk bytes 32) (range_with_len 0 n)) k

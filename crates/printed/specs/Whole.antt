@@ -1,6 +1,7 @@
 -- The whole state, as bytes: a line for itself, then one for each parent, candidate and open trial.
-use Rattle.std.specs.Prelude.{ℕ, Bool, List, [], ◌++◌, cond, take, zip, Option, Some, None, codes, decimal, flat_map, count_by}
+use Rattle.std.specs.Prelude.{ℕ, Bool, List, [], ◌++◌, cond, take, zip, Option, Some, None, codes, decimal, flat_map}
 use Rattle.std.specs.List.{enumerate_from}
+use Rattle.candidates.specs.Space.{continuous_count}
 use Rattle.candidates.specs.declared.Candidate.{Candidate}
 use Rattle.distribution.specs.Dims.{is_continuous}
 use Rattle.distribution.specs.declared.DimensionInfo.{DimensionInfo}
@@ -28,7 +29,7 @@ choices_text dims choices = flat_map choice_text (enumerate_from 0 (zip dims cho
 
 -- ` X0 X1 .. DIM:CHOICE ..`: an entry for each continuous dimension, then the choices
 unfoldable pub vector_text : List DimensionInfo → Candidate → List ℕ
-vector_text dims c = values_text (take (count_by is_continuous dims) c.x) ++ choices_text dims c.choices
+vector_text dims c = values_text (take (continuous_count dims) c.x) ++ choices_text dims c.choices
 
 -- `parent VALUE X0 X1 .. DIM:CHOICE ..`
 abbrev pub parent_text : List DimensionInfo → Member → List ℕ

@@ -1,19 +1,13 @@
 // The words of the rows, as far as they need no state.
-ghost use Rattle.std.specs.Prelude.{Some, ◌≡◌, take};
+ghost use Rattle.std.specs.Prelude.{Some};
 ghost use Rattle.std.specs.Fmt.{WritesOnOk};
 ghost use Rattle.printed.specs.Rows.{hex_text, pattern_text, setting_text, values_text, row_text, rows_text, best_text};
 
 use distribution::ParamValue;
 use numbers::bits_of;
 use slots::Looked;
+use state::view::first;
 use std::fmt::{self, Formatter, Write};
-
-// The first n, all where there are fewer. State's own is private to what is in use of a state, and this is of any slice.
-pub fn first<T>(xs: &[T], n: usize) -> &[T]
-    ensures { result.now ≡ take n xs.now }
-{
-    &xs[..n.min(xs.len())]
-}
 
 // A word, as N hexadecimal digits.
 #[derive(Clone, Copy)]

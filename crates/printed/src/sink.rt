@@ -1,5 +1,5 @@
-// A writer through one buffer. `BufWriter` would keep its buffer on the heap, which this program does without.
-ghost use Rattle.std.specs.Prelude.{◌≡◌, OnOk};
+// A writer through one buffer. A `BufWriter` has its buffer on the heap, and there may be no room for it: `new` here cannot fail.
+ghost use Rattle.std.specs.Prelude.{OnOk};
 ghost use Rattle.std.specs.Io.KnownBytes.{Appends, Keeps};
 
 use filled::Filled;

@@ -1,14 +1,16 @@
 // The whole state: a line for itself, then one for each parent, candidate and open trial.
+// Each function has the parameters of `Display::fmt`: a formatter, and what is written.
 ghost use Rattle.std.specs.Prelude.{Some, flat_map, take};
 ghost use Rattle.std.specs.Fmt.{WritesOnOk};
 ghost use Rattle.state.specs.View.{candidate_count, parent_count};
 ghost use Rattle.printed.specs.Whole.{dims_in, choices_text, vector_text, parent_text, candidate_text, trial_text};
 ghost use Rattle.printed.specs.Whole.{first_text, phase_text, head_text, state_text};
 
-use crate::rows::{Bits, Digits, first, put_values};
-use candidates::Candidate;
-use distribution::{DimensionInfo, is_continuous};
+use crate::rows::{Bits, Digits, put_values};
+use candidates::{Candidate, continuous_count};
+use distribution::DimensionInfo;
 use state::State;
+use state::view::first;
 use std::fmt::{self, Formatter, Write};
 
 // The choices in dimension order.
@@ -20,7 +22,7 @@ fn put_choices<W: Write>(
     ensures { WritesOnOk W.write_str_gives f.old result (choices_text dims.now choices.now) f.new }
 {
     for (i, (dim, choice)) in dims.iter().zip(choices).enumerate() {
-        if !is_continuous(dim.distribution) {
+        if !dim.distribution.is_continuous() {
             write!(f, " {i}:{choice}")?;
         }
     }
@@ -28,7 +30,6 @@ fn put_choices<W: Write>(
 }
 
 // The entries, of which each continuous dimension has one, then the choices.
-// Counted as the definition counts: candidates' `continuous_place` is of one dimension, and would be asked for one behind the last.
 #[tactic(auto, unfolding(crate::specs::Whole::vector_text))]
 fn put_vector<W: Write>(
     f: &mut Formatter<W>,
@@ -37,11 +38,7 @@ fn put_vector<W: Write>(
 ) -> fmt::Result
     ensures { WritesOnOk W.write_str_gives f.old result (vector_text dims.now candidate.now) f.new }
 {
-    let n = dims
-        .iter()
-        .filter(|d| is_continuous(d.distribution))
-        .count();
-    put_values(f, first(&candidate.x, n))?;
+    put_values(f, first(&candidate.x, continuous_count(dims)))?;
     put_choices(f, dims, &candidate.choices)
 }
 
@@ -83,22 +80,34 @@ fn put_trials<W: Write>(f: &mut Formatter<W>, state: &State) -> fmt::Result
     Ok(())
 }
 
-fn put_first<W: Write>(f: &mut Formatter<W>, first: Option<u64>) -> fmt::Result
-    ensures { WritesOnOk W.write_str_gives f.old result (first_text first) f.new }
-{
-    match first {
-        Some(number) => write!(f, "{number}"),
-        None => write!(f, "-"),
+// The first trial's number; `-` while there is none.
+#[derive(Clone, Copy)]
+struct FirstTrial(Option<u64>);
+
+impl fmt::Display for FirstTrial {
+    ghost output = { λ first. Some (first_text first.0) };
+
+    fn fmt<W: Write>(&self, f: &mut Formatter<W>) -> fmt::Result {
+        match self.0 {
+            Some(number) => write!(f, "{number}"),
+            None => write!(f, "-"),
+        }
     }
 }
 
-fn put_phase<W: Write>(f: &mut Formatter<W>, discovered: bool) -> fmt::Result
-    ensures { WritesOnOk W.write_str_gives f.old result (phase_text discovered) f.new }
-{
-    if discovered {
-        write!(f, "state active ")
-    } else {
-        write!(f, "state discovery ")
+// Whether discovery has ended.
+#[derive(Clone, Copy)]
+struct Phase(bool);
+
+impl fmt::Display for Phase {
+    ghost output = { λ phase. Some (phase_text phase.0) };
+
+    fn fmt<W: Write>(&self, f: &mut Formatter<W>) -> fmt::Result {
+        if self.0 {
+            write!(f, "state active ")
+        } else {
+            write!(f, "state discovery ")
+        }
     }
 }
 
@@ -107,12 +116,10 @@ fn put_phase<W: Write>(f: &mut Formatter<W>, discovered: bool) -> fmt::Result
 fn put_head<W: Write>(f: &mut Formatter<W>, state: &State) -> fmt::Result
     ensures { WritesOnOk W.write_str_gives f.old result (head_text state.now) f.new }
 {
-    put_phase(f, state.discovered)?;
-    put_first(f, state.first)?;
+    let (phase, first) = (Phase(state.discovered), FirstTrial(state.first));
     let (n, n_dims, best) = (state.n, state.n_dims, state.best);
-    write!(f, " {n} {n_dims} {best} ")?;
     let word = Digits::<16>(state.word);
-    writeln!(f, "{word}")
+    writeln!(f, "{phase}{first} {n} {n_dims} {best} {word}")
 }
 
 #[derive(Clone, Copy)]

@@ -43,12 +43,6 @@ few (a ∷ b ∷ s) h = absurd (omega arith)
 
 -- ---- the stores
 
--- the file's length stays
-pub length_over : (at : ℕ) (bs f : List ℕ) → length (overwritten at bs f) ≡ length f
-unfolding overwritten
-length_over at [] f = refl
-length_over at (b ∷ bs) f = length_over (suc at) bs (set f at b) ∙ length-set f at b
-
 -- where a loop stands that has stored k bytes of the word in f, the digits of rest being left
 pub record Storing (hex f₀ : List ℕ) (at k : ℕ) (f rest : List ℕ) : Type 0 where
   pub room : at + k + length (hex_of rest) ≤ length f

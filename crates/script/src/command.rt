@@ -1,6 +1,6 @@
 // What a line says.
 ghost use Rattle.std.specs.Prelude.{◌≡◌, map};
-ghost use Rattle.script.specs.Commands.{new_line, bare_line, tell_line, file_line, put_line, pair_line};
+ghost use Rattle.script.specs.Commands.{new_line, tell_line, put_line};
 ghost use Rattle.script.specs.Commands.{sample_float, sample_int, range_line, choice_line, line_of, command_of};
 
 use crate::fields::{optional, scale, strategy};
@@ -55,33 +55,6 @@ fn new(key: &[u8], f: &[u8], cr: &[u8], by: &[u8], size: &[u8], seed: &[u8]) -> 
     }
 }
 
-// `clear`, `look`, `state`, `save`, `restore` and `bytes`.
-#[tactic(auto, unfolding(crate::specs::Commands::bare_line))]
-fn bare(key: &[u8]) -> Option<Command>
-    ensures { result ≡ bare_line key.now }
-{
-    match key {
-        b"clear" => Some(Command::Clear),
-        b"look" => Some(Command::Ask(Question::Look)),
-        b"state" => Some(Command::Ask(Question::State)),
-        b"save" => Some(Command::Ask(Question::Save)),
-        b"restore" => Some(Command::Ask(Question::Restore)),
-        b"bytes" => Some(Command::Ask(Question::Bytes)),
-        _ => None,
-    }
-}
-
-// `file LENGTH`.
-#[tactic(auto, unfolding(crate::specs::Commands::file_line))]
-fn file(key: &[u8], length: &[u8]) -> Option<Command>
-    ensures { result ≡ file_line key.now length.now }
-{
-    match key {
-        b"file" => read_whole(length).map(Command::File),
-        _ => None,
-    }
-}
-
 // `tell TRIAL VALUE`, its keyword seen.
 #[tactic(auto, unfolding(crate::specs::Commands::tell_line))]
 fn tell(trial: &[u8], value: &[u8]) -> Option<Command>
@@ -102,20 +75,8 @@ fn put(offset: &[u8], hex: &[u8]) -> Option<Command>
     is_hex(hex).then_some(Command::Put(at))
 }
 
-// A line of three words.
-#[tactic(auto, unfolding(crate::specs::Commands::pair_line))]
-fn pair(key: &[u8], a: &[u8], b: &[u8]) -> Option<Command>
-    ensures { result ≡ pair_line key.now a.now b.now }
-{
-    match key {
-        b"tell" => tell(a, b),
-        b"put" => put(a, b),
-        _ => None,
-    }
-}
-
 // `sample TRIAL float LOW HIGH SCALE STEP`, its two keywords seen. One function for this and the next, with the words' reader as
-// a closure, would be no plainer: it would hand back the four values, and each caller would put them into its own struct.
+// a closure, would be no plainer: it would hand back five values, and each caller would put four of them into its own struct.
 #[tactic(auto, unfolding(crate::specs::Commands::sample_float))]
 fn sample_float(trial: &[u8], low: &[u8], high: &[u8], log: &[u8], step: &[u8]) -> Option<Command>
     ensures { result ≡ sample_float trial.now low.now high.now log.now step.now }
@@ -147,7 +108,7 @@ fn sample_int(trial: &[u8], low: &[u8], high: &[u8], log: &[u8], step: &[u8]) ->
     }))
 }
 
-// A line of seven words.
+// A line of seven words. They go on one by one: the pattern in `rule` names them, and a struct of them would be taken apart at once.
 #[tactic(auto, unfolding(crate::specs::Commands::range_line))]
 fn range(
     key: &[u8],
@@ -186,15 +147,22 @@ fn choice(key: &[u8], trial: &[u8], kind: &[u8], count: &[u8]) -> Option<Command
     }))
 }
 
-// The rule for so many words.
-#[tactic(auto, unfolding(crate::specs::Commands::line_of))]
+// The rule that the words of a line meet. The keywords of the longer rules are tested by their functions: tried as patterns here, and
+// `returns-in-new` and `returns-in-sample` stay open.
+#[tactic(auto, unfolding(crate::specs::Commands::line_of, crate::specs::Commands::bare_line, crate::specs::Commands::file_line, crate::specs::Commands::pair_line))]
 fn rule(words: &[&[u8]]) -> Option<Command>
     ensures { result ≡ line_of (map (λ w. w.now) words.now) }
 {
     match *words {
-        [key] => bare(key),
-        [key, length] => file(key, length),
-        [key, a, b] => pair(key, a, b),
+        [b"clear"] => Some(Command::Clear),
+        [b"look"] => Some(Command::Ask(Question::Look)),
+        [b"state"] => Some(Command::Ask(Question::State)),
+        [b"save"] => Some(Command::Ask(Question::Save)),
+        [b"restore"] => Some(Command::Ask(Question::Restore)),
+        [b"bytes"] => Some(Command::Ask(Question::Bytes)),
+        [b"file", length] => read_whole(length).map(Command::File),
+        [b"tell", trial, value] => tell(trial, value),
+        [b"put", offset, hex] => put(offset, hex),
         [key, trial, kind, count] => choice(key, trial, kind, count),
         [key, f, cr, by, size, seed] => new(key, f, cr, by, size, seed),
         [key, trial, kind, low, high, log, step] => {

@@ -1,7 +1,6 @@
 // HEX: the bytes that a `put` line carries. A `Command` says where they go; they stay in the line and are read from there.
 ghost use Rattle.std.specs.Prelude.{◌≡◌, ◌+◌, ◌≤◌, length, is_some};
 ghost use Rattle.numbers.specs.Numbers.{all_digits};
-ghost use Rattle.script.specs.Words.{word_at};
 ghost use Rattle.script.specs.Hex.{is_hex, hex_digit, hex_of, put_bytes, fits_at, put_into, overwritten};
 
 use crate::words::word;
@@ -36,6 +35,7 @@ fn overwrite(hex: &[u8], file: &mut [u8], at: usize)
     requires { at + length (hex_of hex.now) ≤ length file.old }
     ensures { file.new ≡ overwritten at (hex_of hex.now) file.old }
 {
+    // Counted: tried as a `zip` of the file's places with the pairs, and `returns` stays open.
     for (k, pair) in hex.chunks_exact(2).enumerate() {
         file[at + k] = hex_digit(pair[0]) * 16 + hex_digit(pair[1]);
     }

@@ -1,5 +1,5 @@
 -- Rows put together of the texts that were put into a block one behind the other, and rows one behind the other.
-use Rattle.std.proofs.Common.{◌≡◌, ℕ, List, [], ◌∷◌, ◌++◌, refl, sym, ap, ◌∙◌, append_assoc, length, arith}
+use Rattle.std.proofs.Common.{◌≡◌, ℕ, List, [], ◌∷◌, ◌++◌, refl, sym, ap, ◌∙◌, append_assoc, length, length-append, arith}
 use Rattle.std.specs.Prelude.{Float, codes}
 use Rattle.std.proofs.lemmas.List.{append-nil, take_min}
 use Rattle.metrics.specs.declared.ExportRefusal.{ExportRefusal}
@@ -11,6 +11,8 @@ use Rattle.tells.specs.Text.{places_from, whole_text, pattern_text, tell_row, te
 pub tell-is : (n : ℕ) (x : Float) (front : List ℕ) → front ++ codes "tell " ++ whole_text n ++ codes " " ++ pattern_text x ++ codes "\n" ≡ front ++ tell_text n x
 unfolding tell_text tell_row
 tell-is n x front = simp append_assoc
+
+pub ruleset told = (tell-is)
 
 pub fourteen : whole_text 14 ≡ codes "14"
 unfolding whole_text places_from
@@ -33,7 +35,7 @@ pub refused-is : (why : ExportRefusal) (n : ℕ) → n ≡ export_refusal_number
     → ((codes "refused " ++ whole_text n) ++ carried why) ++ codes "\n" ≡ refused_text why
 refused-is why n e = ap (λ (k : ℕ). ((codes "refused " ++ whole_text k) ++ carried why) ++ codes "\n") e ∙ joined why
 
-pub ruleset refused = (two-digits)
+pub ruleset refused = (two-digits, refused-is, length-append)
 
 -- the rows of what is left, behind those so far
 pub texts-end : (ns : List ℕ) (xs : List Float) (front : List ℕ) → length ns ≡ 0 → front ++ tell_texts ns xs ≡ front

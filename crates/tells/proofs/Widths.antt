@@ -47,3 +47,5 @@ unfolding pattern_text
 pattern-is x w k h e f =
     let l : k ≡ 16 = omega (arith, f.0, no_more 16 16 16 (omega arith) (omega arith) (omega arith) f) in
     ap (λ (j : ℕ). last_digits 16 j w) l ∙ ap (λ (v : ℕ). last_digits 16 16 v) e
+
+pub ruleset widths = (no_more, whole_is, pattern-is)

@@ -17,7 +17,8 @@ places_from k (suc more) n = cond (ltb n (10 ^ k)) k (places_from (suc k) more n
 unfoldable pub whole_text : ℕ → List ℕ
 whole_text n = last_digits 10 (places_from 1 19 n) n
 
--- "A double is written as its bit pattern, 16 hexadecimal digits, low case" (docs/SCRIPTS.md)
+-- "A double is written as its bit pattern, 16 hexadecimal digits, low case" (docs/SCRIPTS.md). As printed's, which
+-- stands on the sampler, where this program stands on nothing of it.
 unfoldable pub pattern_text : Float → List ℕ
 pattern_text x = last_digits 16 16 (to_bits binary64 x)
 

@@ -9,6 +9,7 @@
 // failed is also said on standard error. The program needs 3.6 MB of stack.
 #![tactic(auto)]
 
+use filled::Filled;
 use metrics::ExportRefusal;
 use std::io;
 use std::io::{Read, Write};
@@ -18,19 +19,17 @@ mod rows;
 
 // A `tell` line for each entry, written in blocks.
 fn write_tells<W: Write>(to: &mut W, numbers: &[u64], values: &[f64]) -> io::Result<()> {
-    let mut block = [0u8; 8192];
+    let mut block: Filled<u8, 8192> = Filled::new(0);
     let rows = rows::room(&block);
     for (numbers, values) in numbers.chunks(rows).zip(values.chunks(rows)) {
-        let n = rows::fill(&mut block, numbers, values);
-        to.write_all(&block[..n])?;
+        rows::fill(&mut block, numbers, values);
+        to.write_all(block.as_slice())?;
     }
     Ok(())
 }
 
 fn write_refusal<W: Write>(to: &mut W, why: ExportRefusal) -> io::Result<()> {
-    let mut row = [0u8; 32];
-    let n = rows::refused_row(&mut row, why);
-    to.write_all(&row[..n])
+    to.write_all(rows::refused_row(why).as_slice())
 }
 
 // The export read, and what it gives written.

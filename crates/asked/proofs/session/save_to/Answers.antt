@@ -1,5 +1,5 @@
 -- The laws of `Saving`, the array having room for 81,920 bytes.
-use Rattle.std.proofs.Common.{◌≡◌, ℕ, Ok, Err, length, sym, ap, ◌∙◌, arith}
+use Rattle.std.proofs.Common.{◌≡◌, Ok, Err, length, sym, ap, ◌∙◌, arith}
 use Rattle.saved.specs.Save.{save_of}
 use Rattle.asked.proofs.Saving.{saved, unsaved}
 use Rattle.asked.proofs.session.save_to.Goals as goal
