@@ -1,5 +1,5 @@
 // The states that are measured: every slot's trial open, none of them told.
-// The program `vectors` has a `call`, `trials` and `discover` of its own: no crate stands on a program.
+// The program `vectors` has a `call`, `trials` and `discover` of its own: a crate for three functions of a line or two each would be no plainer.
 use de::build::{DESamplerBuilder, new_state};
 use de::sample::sample_slices;
 use distribution::{Distribution, FloatDistribution};
@@ -22,20 +22,12 @@ pub fn call(state: State, trial: u64) -> State {
 
 // k calls of trial 1.
 fn discover(state: State, k: u64) -> State {
-    let mut s = state;
-    for _ in 0..k {
-        s = call(s, 1);
-    }
-    s
+    (0..k).fold(state, |s, _| call(s, 1))
 }
 
 // A call each of the trials from..end.
 pub fn trials(state: State, from: u64, end: u64) -> State {
-    let mut s = state;
-    for trial in from..end {
-        s = call(s, trial);
-    }
-    s
+    (from..end).fold(state, call)
 }
 
 // k dimensions, and the trials 2..end open.

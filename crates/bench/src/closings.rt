@@ -1,6 +1,7 @@
 // Closing calls, each timed by itself at the end of a generation.
 use crate::campaign::{trials, unit_interval};
 use crate::clock::{now, since};
+use crate::draws::drawn;
 use crate::work::Timed;
 use de::sample::sample_slices;
 use state::State;
@@ -15,23 +16,11 @@ pub struct Campaign {
     pub ns: u64,
 }
 
-// A result for each place, drawn. The word is threaded by hand: `Gen::draw` counts, and asks for a count under 2^63, which in a loop takes a proof file.
-fn results(word: u64) -> [f64; 224] {
-    let mut values = [0.0f64; 224];
-    let mut w = word;
-    for value in &mut values {
-        let s = rng_util::next(w);
-        w = s.word;
-        *value = rng_util::unit(s.output);
-    }
-    values
-}
-
-// The closing call: its history has the results of the first N open trials.
+// The closing call: its history has the results of the first N open trials, which are drawn.
 fn closing(rt: &impl Clock, c: Campaign) -> io::Result<Campaign> {
     let state = c.state;
     let numbers = state.trials.map(|trial| trial.number);
-    let values = results(state.word);
+    let values = drawn::<224, _>(state.word, rng_util::unit);
     let n = state.n.min(224);
     let from = now(rt)?;
     let s = sample_slices(state, unit_interval(), c.next, &numbers[..n], &values[..n]);
@@ -58,14 +47,12 @@ fn generation(rt: &impl Clock, c: Campaign) -> io::Result<Campaign> {
 
 // The least time of fifty closings, the first of which stores and the others select.
 pub fn best_closing(rt: &impl Clock, state: State, next: u64) -> io::Result<Timed> {
-    let mut c = Campaign {
+    let start = Campaign {
         state,
         next,
         ns: u64::MAX,
     };
-    for _ in 0..50 {
-        c = generation(rt, c)?;
-    }
+    let c = (0..50).try_fold(start, |c, _| generation(rt, c))?;
     Ok(Timed {
         ns: c.ns,
         word: c.state.word,

@@ -4,23 +4,24 @@
 mod campaign;
 mod clock;
 mod closings;
+mod draws;
 mod measure;
 mod rounded;
 mod scan;
 mod show;
 mod work;
 
-use std::io;
 use std::rt::Env;
+use std::{env, io};
 
 // Whether the first argument is `run`.
-fn asked(rt: &impl Env) -> bool {
-    let mut word = [0u8; 4];
-    matches!(rt.arg(1, &mut word), Ok(3)) && word.starts_with(b"run")
+fn asked(rt: &(impl Alloc + Env)) -> io::Result<bool> {
+    let mut words = env::args(rt)?;
+    Ok(words.nth(1).is_some_and(|word| word.as_str() == "run"))
 }
 
 fn main(rt: HostRuntime) -> io::Result<()> {
-    if asked(&rt) {
+    if asked(&rt)? {
         measure::measure(&rt)
     } else {
         println!(rt;

@@ -1,5 +1,6 @@
 // Rounding by itself, in a loop over a fixed list of doubles.
 use crate::clock::{now, since};
+use crate::draws::drawn;
 use std::io;
 use std::time::Clock;
 
@@ -11,16 +12,11 @@ pub struct Summed {
 }
 
 // A thousand doubles from 0 to 1000, drawn: such as decoding by a step rounds.
-// The word is threaded by hand: `Gen::draw` counts, and asks for a count under 2^63, which in a loop takes a proof file.
 fn doubles(seed: u64) -> [f64; 1000] {
-    let mut xs = [0.0f64; 1000];
-    let mut w = seed;
-    for x in &mut xs {
-        let s = rng_util::next(w);
-        w = s.word;
-        *x = rng_util::f64_range(0.0, 1000.0, rng_util::unit(s.output));
-    }
-    xs
+    drawn(
+        seed,
+        |output| rng_util::f64_range(0.0, 1000.0, rng_util::unit(output)),
+    )
 }
 
 fn sum_rounded(from: f64, xs: &[f64; 1000]) -> f64 {

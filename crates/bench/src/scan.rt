@@ -6,12 +6,7 @@ use state::State;
 use std::io;
 use std::time::Clock;
 
-fn best_told<'a>(
-    rt: &impl Clock,
-    state: State,
-    numbers: &'a [u64],
-    values: &'a [f64],
-) -> io::Result<Timed> {
+fn best_told(rt: &impl Clock, state: State, numbers: &[u64], values: &[f64]) -> io::Result<Timed> {
     best(rt, state, |s| {
         sample_slices(s, unit_interval(), 2, numbers, values).state
     })

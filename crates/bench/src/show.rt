@@ -2,10 +2,7 @@
 use std::io;
 
 fn hundredths(rt: &impl Print, v: u64) -> io::Result<()> {
-    let whole = v / 100;
-    let tenth = v / 10 % 10;
-    let hundredth = v % 10;
-    println!(rt; "{whole}.{tenth}{hundredth}")
+    println!(rt; "{}.{:02}", v / 100, v % 100)
 }
 
 pub fn time(rt: &impl Print, name: &str, size: &str, v: u64) -> io::Result<()> {
@@ -19,13 +16,11 @@ pub fn ratio(rt: &impl Print, name: &str, size: &str, v: u64, w: u64) -> io::Res
     hundredths(rt, hundredfold(v, w))
 }
 
-// A hundred times v / w, and 0 where there is none or v is no time that was measured.
+// A hundred times v / w; 0 where w is 0, or where a hundred times v passes 64 bits, which no time that was measured does.
 pub fn hundredfold(v: u64, w: u64) -> u64 {
-    if w == 0 || v > 100000000000000000 {
-        0
-    } else {
-        v * 100 / w
-    }
+    v.checked_mul(100)
+        .and_then(|v| v.checked_div(w))
+        .unwrap_or(0)
 }
 
 // Says so where work did not leave what it should. What is asked after, the compiler cannot leave out.

@@ -13,7 +13,7 @@ pub struct Timed {
 }
 
 // Which of two places is written is drawn, so the compiler cannot tell that both hold the same.
-// The word is threaded by hand: `Gen::draw` counts, and asks for a count under 2^63, which in a loop takes a proof file.
+// By the word and not by a `Gen`, which counts its draws up to 2^63: `turns` may be more.
 pub fn copies(state: State, turns: u64) -> State {
     let mut pair = [state; 2];
     let mut word = state.word;
@@ -26,7 +26,9 @@ pub fn copies(state: State, turns: u64) -> State {
     pair[0]
 }
 
-// The least time of fifty runs of some work. Each starts from the same state, but for the word that the one before left.
+// The least time of fifty runs of some work. Each starts from the same state, but for the word that the one before left. `best_pass` and
+// `best_closing` hand other things on, a sum and a campaign, so this is not one function with them. The clock is the program's handle, and
+// no part of a state.
 pub fn best<F: Fn(State) -> State>(rt: &impl Clock, state: State, work: F) -> io::Result<Timed>
     requires { F.IsAlwaysCallable work }
 {

@@ -8,8 +8,8 @@ pub fn is_refused<T: Drop>(answer: Result<T, Refusal>, n: u64) -> bool {
     answer.is_err_and(|r| r.number() == n)
 }
 
-// The generator's word and the counts are those that came in.
-fn same_counts(a: State, b: State) -> bool {
+// The generator's word and the counts are those that came in. A state has doubles, and derives no equality.
+fn same_counts(a: &State, b: &State) -> bool {
     a.word == b.word
         && a.n == b.n
         && a.n_dims == b.n_dims
@@ -19,6 +19,6 @@ fn same_counts(a: State, b: State) -> bool {
 }
 
 // The call on `before` is refused with this number, counts no draw and hands back the state.
-pub fn refused(before: State, s: Sampled, n: u64) -> bool {
-    is_refused(s.answer, n) && s.draws == 0 && same_counts(before, s.state)
+pub fn refused(before: &State, s: Sampled, n: u64) -> bool {
+    is_refused(s.answer, n) && s.draws == 0 && same_counts(before, &s.state)
 }

@@ -1,4 +1,4 @@
-// Calls of the sampler with an empty history.
+// Calls of the sampler with an empty history. `bench` has some like them, and like those in `dimensions`: a crate for both would be no plainer.
 use crate::answers::refused;
 use crate::given::unit_interval;
 use crate::show::figure;
@@ -44,5 +44,5 @@ pub fn refusal(
     trial: u64,
     n: u64,
 ) -> io::Result<()> {
-    figure(rt, name, refused(state, call(state, d, trial), n))
+    figure(rt, name, refused(&state, call(state, d, trial), n))
 }

@@ -5,7 +5,8 @@ use distribution::ParamValue;
 use rng_util::Gen;
 use std::io;
 
-// The published outputs of seed 1234567, a line each.
+// The published outputs of seed 1234567, a line each. The draws are spelt out: a loop would want an invariant of
+// how many were made.
 #[tactic(auto, unfolding(rng_util::specs::Gen::draw_of))]
 pub fn published(rt: &impl Print) -> io::Result<()> {
     let mut rng = Gen::new(1234567);

@@ -51,5 +51,5 @@ pub fn histories(rt: &impl Print) -> io::Result<()> {
     let numbers = [7u64; 1];
     let values = [f64::NAN; 1];
     let s = sample_slices(state, unit_interval(), 3, &numbers, &values);
-    figure(rt, "history (7, NaN) is 8", refused(state, s, 8))
+    figure(rt, "history (7, NaN) is 8", refused(&state, s, 8))
 }
