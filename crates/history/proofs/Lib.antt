@@ -1,4 +1,4 @@
 pub mod Places
-pub mod Absorbing
+pub mod Putting
 pub mod Scans
 pub mod Meaning

@@ -8,6 +8,7 @@ use Rattle.std.proofs.lemmas.Iterator.{YieldsList, items_from_drains}
 use Rattle.history.specs.Scan.{absorbed, may_matter, gathered, trials_of}
 use Rattle.history.specs.declared.CompletedTrial.{CompletedTrial}
 use Rattle.history.specs.declared.Gathered.{Gathered}
+use Rattle.history.specs.declared.TrialState.{TrialState}
 
 pub scan-none : (lo hi : ℕ) (ns : List ℕ) (g : Gathered) → gathered lo hi ns [] g ≡ g
 unfolding gathered
@@ -28,12 +29,13 @@ pub scanned : {S : Type 0} {steps : S → Option CompletedTrial → S → Type 0
 scanned lo hi ns g r (es, (u, (t, ran, ended)), is) gives =
     is ∙ ap (λ (xs : List CompletedTrial). gathered lo hi ns xs g) (sym (map-id es) ∙ items_from_drains es (t, ran, λ _. (u, ended)) gives)
 
--- the pair of a number and a value, as an entry
-abbrev pub entry_of : ℕ × Float → CompletedTrial
-entry_of p = record { number = p.0; value = p.1 }
+-- a number, a value and a state, as an entry
+abbrev pub entry_of : (ℕ × Float) × TrialState → CompletedTrial
+entry_of p = record { number = p.0.0; value = p.0.1; state = p.1 }
 
-pub trials-zip : (ns : List ℕ) (vs : List Float) → map entry_of (zip ns vs) ≡ trials_of ns vs
+pub trials-zip : (ns : List ℕ) (vs : List Float) (ss : List TrialState) → map entry_of (zip (zip ns vs) ss) ≡ trials_of ns vs ss
 unfolding trials_of
-trials-zip [] vs = refl
-trials-zip (n ∷ ns) [] = refl
-trials-zip (n ∷ ns) (v ∷ vs) = ap (λ (es : List CompletedTrial). record { number = n; value = v } ∷ es) (trials-zip ns vs)
+trials-zip [] vs ss = refl
+trials-zip (n ∷ ns) [] ss = refl
+trials-zip (n ∷ ns) (v ∷ vs) [] = refl
+trials-zip (n ∷ ns) (v ∷ vs) (s ∷ ss) = ap (λ (es : List CompletedTrial). record { number = n; value = v; state = s } ∷ es) (trials-zip ns vs ss)

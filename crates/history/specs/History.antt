@@ -3,7 +3,7 @@ use Rattle.std.specs.Prelude.{ℕ, Bool, false, ◌||◌, cond, List, [], ◌∷
 use Rattle.history.specs.Entry.{is_bad, counted_value}
 use Rattle.history.specs.declared.CompletedTrial.{CompletedTrial}
 
--- refusal 8: "a history value is NaN"
+-- refusal 8: "a history value is NaN", "narrowed to complete entries" (02, W6)
 unfoldable pub any_nan : List CompletedTrial → Bool
 any_nan [] = false
 any_nan (e ∷ es) = is_bad e || any_nan es

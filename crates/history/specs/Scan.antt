@@ -3,6 +3,7 @@ use Rattle.std.specs.Prelude.{ℕ, suc, ◌<◌, ◌≤◌, min, Bool, false, �
 use Rattle.history.specs.Entry.{is_bad, counted_value}
 use Rattle.history.specs.declared.CompletedTrial.{CompletedTrial}
 use Rattle.history.specs.declared.Gathered.{Gathered}
+use Rattle.history.specs.declared.TrialState.{TrialState}
 
 -- ---- what is wanted
 -- how many of the 160 places are used where these numbers are wanted
@@ -21,9 +22,9 @@ Within lo hi ns = (i : ℕ) → i < wanted ns → (lo ≤ number_at ns i) × (nu
 abbrev pub wants : ℕ → List ℕ → ℕ → ℕ → Bool
 wants k numbers m i = ltb i k && eqb m (get_or numbers i 0)
 
--- place i wants the entry's number
-abbrev pub wanting : List ℕ → CompletedTrial → ℕ → Bool
-wanting ns e = wants (wanted ns) ns e.number
+-- place i wants the number m
+abbrev pub wanting : List ℕ → ℕ → ℕ → Bool
+wanting ns m = wants (wanted ns) ns m
 
 -- before the first entry: no value is NaN, and no number is found
 abbrev pub nothing : Gathered
@@ -37,11 +38,11 @@ put_where test v (x ∷ xs) = cond (test 0) v x ∷ put_where (λ i. test (suc i
 
 -- A bad entry is noted. Each place that wants the entry's number holds its value, whatever an earlier entry gave: "its last entry counts".
 unfoldable pub absorbed : List ℕ → Gathered → CompletedTrial → Gathered
-absorbed ns g e = record { nan = is_bad e || g.nan; values = put_where (wanting ns e) (Some (counted_value e)) g.values }
+absorbed ns g e = record { nan = is_bad e || g.nan; values = put_where (wanting ns e.number) (Some (counted_value e)) g.values }
 
--- an entry that is bad, or whose number is from lo to hi
+-- an entry whose number is from lo to hi, or that is bad
 unfoldable pub may_matter : ℕ → ℕ → CompletedTrial → Bool
-may_matter lo hi e = is_bad e || (leb lo e.number && leb e.number hi)
+may_matter lo hi e = (leb lo e.number && leb e.number hi) || is_bad e
 
 -- ---- the scan
 -- every entry that may matter, in turn
@@ -54,8 +55,9 @@ unfoldable pub gathered_all : List ℕ → List CompletedTrial → Gathered → 
 gathered_all ns [] g = g
 gathered_all ns (e ∷ es) g = gathered_all ns es (absorbed ns g e)
 
--- the entries of a list of numbers and a list of values, side by side: as many as the shorter list has
-unfoldable pub trials_of : List ℕ → List Float → List CompletedTrial
-trials_of [] vs = []
-trials_of (n ∷ ns) [] = []
-trials_of (n ∷ ns) (v ∷ vs) = record { number = n; value = v } ∷ trials_of ns vs
+-- the entries of a list of numbers, one of values and one of states, side by side: as many as the shortest list has
+unfoldable pub trials_of : List ℕ → List Float → List TrialState → List CompletedTrial
+trials_of [] vs ss = []
+trials_of (n ∷ ns) [] ss = []
+trials_of (n ∷ ns) (v ∷ vs) [] = []
+trials_of (n ∷ ns) (v ∷ vs) (s ∷ ss) = record { number = n; value = v; state = s } ∷ trials_of ns vs ss
