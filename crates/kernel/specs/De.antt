@@ -92,6 +92,7 @@ de =
       nexts = nexts_of;
       decode = decode_of;
       number_of = λ e. e.number;
+      -- "The result counted for a slot is the value after this rule" (02, W6)
       value_of = counted_value;
       is_bad = is_bad;
       fits = fits;
