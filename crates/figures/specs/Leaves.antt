@@ -10,6 +10,7 @@ use Rattle.distribution.specs.declared.ParamValue.TheVariants as P
 use Rattle.common.specs.FromInternal.{from_internal}
 use Rattle.history.specs.History.{last_value}
 use Rattle.history.specs.declared.CompletedTrial.{CompletedTrial}
+use Rattle.history.specs.declared.TrialState.TheVariants.{Complete}
 use Rattle.ledger.specs.Closing.{scan}
 use Rattle.kernel.specs.De.{de}
 
@@ -59,7 +60,7 @@ Steps =
 -- "History (7, 5), (7, 2): 7 has 2"
 unfoldable pub twice : List CompletedTrial
 unfolding dec
-twice = record { number = 7; value = dec 5 0 } ∷ record { number = 7; value = dec 2 0 } ∷ []
+twice = record { number = 7; value = dec 5 0; state = Complete } ∷ record { number = 7; value = dec 2 0; state = Complete } ∷ []
 
 -- as the code's history says it, and as demand 2's definition reads it
 abbrev pub History : Type 0
