@@ -17,7 +17,7 @@ pub fn unit_interval() -> Distribution {
 
 // One call of a trial, with an empty history.
 pub fn call(state: State, trial: u64) -> State {
-    sample_slices(state, unit_interval(), trial, &[], &[]).state
+    sample_slices(state, unit_interval(), trial, &[], &[], &[]).state
 }
 
 // k calls of trial 1.

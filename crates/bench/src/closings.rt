@@ -4,6 +4,7 @@ use crate::clock::{now, since};
 use crate::draws::drawn;
 use crate::work::Timed;
 use de::sample::sample_slices;
+use history::TrialState;
 use state::State;
 use std::io;
 use std::time::Clock;
@@ -16,14 +17,22 @@ pub struct Campaign {
     pub ns: u64,
 }
 
-// The closing call: its history has the results of the first N open trials, which are drawn.
+// The closing call: its history has the results of the first N open trials, complete and drawn.
 fn closing(rt: &impl Clock, c: Campaign) -> io::Result<Campaign> {
     let state = c.state;
     let numbers = state.trials.map(|trial| trial.number);
     let values = drawn::<224, _>(state.word, rng_util::unit);
+    let states = [TrialState::Complete; 224];
     let n = state.n.min(224);
     let from = now(rt)?;
-    let s = sample_slices(state, unit_interval(), c.next, &numbers[..n], &values[..n]);
+    let s = sample_slices(
+        state,
+        unit_interval(),
+        c.next,
+        &numbers[..n],
+        &values[..n],
+        &states[..n],
+    );
     let ns = since(rt, from)?;
     Ok(Campaign {
         state: s.state,

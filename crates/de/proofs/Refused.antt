@@ -3,15 +3,16 @@
 use Rattle.std.specs.Prelude.{Option, Some, None, Err, is_none}
 use Prim.Native.Nat.{ℕ}
 use mathlib.Core.Path.{◌≡◌, refl, sym, ap, subst, ◌∙◌}
-use mathlib.Core.Bool.{Bool, true, false, cond}
+use mathlib.Core.Bool.{Bool, true, false, cond, true≢false}
 use mathlib.Core.List.{List}
 use Rattle.distribution.specs.Refusals.{refusal_number}
 use Rattle.distribution.specs.declared.Distribution.{Distribution}
 use Rattle.distribution.specs.declared.Refusal.{Refusal}
 use Rattle.evolution.specs.declared.Setup.{Setup}
+use Rattle.history.specs.History.{any_nan}
 use Rattle.history.specs.declared.CompletedTrial.{CompletedTrial}
 use Rattle.ledger.specs.Words.{or_else, refuse_if}
-use Rattle.ledger.specs.Call.{Call, call_refusal}
+use Rattle.ledger.specs.Call.{Call, any_bad, call_refusal}
 use Rattle.ledger.specs.State as Plain
 use Rattle.ledger.specs.State.{Returned, refuse}
 use Rattle.ledger.specs.Assignment.{Accepted}
@@ -29,6 +30,7 @@ use Rattle.state.proofs.Tidy as Tidy
 use Rattle.de.specs.Answer.{plain_answer, numbered}
 use Rattle.de.specs.Demand1.{table_refusal, only_refuses, Demand1}
 use Rattle.de.specs.Sample.{call_of, laid_result, unsound, sample_of}
+use Rattle.de.proofs.Gather.{same-bad}
 use Rattle.de.specs.declared.Sampled.{Sampled}
 
 -- ---- its number is the first of the table that applies, for every state
@@ -53,6 +55,27 @@ refused_by s d n h = go (sound_state s)
     go : (b : Bool) → refusal_in de (cond b (laid_result s.setup (step de s.setup (view s) c)) (unsound s)).answer ≡ cond b by (Some 0)
     go true = outcome-by (view s) s.setup (call_refusal de c) (state_refusal de (view s).size (view s) c) (accept de s.setup (view s).size (view s) c)
     go false = refl
+
+-- ---- a history with an entry that refusal 8 is for gives no setting: that or another refusal is given
+
+-- refused, or no setting by its type
+abbrev pub Refuses : Plain.Answer de → Type 0
+Refuses (Plain.refused n) = Unit {0}
+Refuses (Plain.given x) = ⊥
+
+pub nan-refused : (s : State) (d : Distribution) (n : ℕ) (h : List CompletedTrial) → any_nan h ≡ true → Refuses (sample_of s d n h).answer
+unfolding sample_of step
+nan-refused s d n h bad = go (sound_state s) (de.judged (call_of n d h).distribution) (any_bad de h) (sym (same-bad h) ∙ bad)
+  where
+    by : Option ℕ
+    by = state_refusal de (view s).size (view s) (call_of n d h)
+
+    go : (b : Bool) (o : Option ℕ) (x : Bool) → x ≡ true
+        → Refuses (cond b (laid_result s.setup (outcome de (view s) (or_else (or_else o (refuse_if x 8)) by) (accept de s.setup (view s).size (view s) (call_of n d h)))) (unsound s)).answer
+    go true (Some r) x e = tt
+    go true None true e = tt
+    go true None false e = absurd (true≢false (sym e))
+    go false o x e = tt
 
 -- ---- a refusal hands back the state that came in
 

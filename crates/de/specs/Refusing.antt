@@ -14,6 +14,6 @@ count_refusal discovered of_discovery D closes place n T =
     (refused_if (not closes && (leb T place && leb (n + 64) T)) ExtraTrials (Ok tt))
     (refused_if (of_discovery && leb 16 D) Dimensions (Ok tt))
 
--- 4 to 7 on the lent distribution, 8: "a history value is NaN", then 9 or 10
+-- 4 to 7 on the lent distribution, 8: "a history value is NaN", of a complete entry (02, W6), then 9 or 10
 unfoldable pub first_refusal : Distribution → Bool → Result ⊤ Refusal → Result ⊤ Refusal
 first_refusal d nan counts = result_and (verdict_of d) (refused_if nan HistoryNan counts)

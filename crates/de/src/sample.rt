@@ -19,7 +19,7 @@ use assignment::places::place_of;
 use assignment::sample_active;
 use closing::{close, closes_now};
 use distribution::{Distribution, ParamValue, Refusal};
-use history::{CompletedTrial, Gathered, scan};
+use history::{CompletedTrial, Gathered, TrialState, scan};
 use rng_util::Gen;
 use state::State;
 
@@ -137,8 +137,9 @@ fn sample_gathered(
     }
 }
 
-// The call over the entries of a history: its answer and its draws. The state is lent: one on the move is 67 KB.
-fn sample_over<I: Iterator<Item = CompletedTrial> + Drop>(
+// The call over the entries of a history: its answer and its draws. The state is lent: one on the move is 67 KB. It is public for the
+// library, whose entries are in numbers; the calls over slices require nothing.
+pub fn sample_over<I: Iterator<Item = CompletedTrial> + Drop>(
     state: &mut State,
     d: Distribution,
     trial: u64,
@@ -155,19 +156,22 @@ fn sample_over<I: Iterator<Item = CompletedTrial> + Drop>(
     sample_gathered(state, d, trial, &g)
 }
 
-// The sample call over two plain slices, a number and a value for each entry of the history.
+// The sample call over plain slices, a number, a value and a state for each entry of the history.
 pub fn sample_slices(
     mut state: State,
     distribution: Distribution,
     trial: u64,
     numbers: &[u64],
     values: &[f64],
+    states: &[TrialState],
 ) -> Sampled
-    ensures { numbered result ≡ sample_of state distribution trial (trials_of numbers.now values.now) }
+    ensures { numbered result ≡ sample_of state distribution trial (trials_of numbers.now values.now states.now) }
 {
-    let entries = numbers.iter().zip(values).map(|(number, value)| CompletedTrial {
+    let parts = numbers.iter().zip(values).zip(states);
+    let entries = parts.map(|((number, value), state)| CompletedTrial {
         number: *number,
         value: *value,
+        state: *state,
     });
     let (answer, draws) = sample_over(&mut state, distribution, trial, entries);
     Sampled {

@@ -16,7 +16,7 @@ pub fn fresh(size: u64) -> State {
 }
 
 pub fn call(state: State, d: Distribution, trial: u64) -> Sampled {
-    sample_slices(state, d, trial, &[], &[])
+    sample_slices(state, d, trial, &[], &[], &[])
 }
 
 // One call of a trial.

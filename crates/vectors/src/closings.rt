@@ -3,13 +3,15 @@ use crate::calls::{discovered, trials};
 use crate::given::unit_interval;
 use crate::show::figure;
 use de::sample::sample_slices;
+use history::TrialState;
 use slots::look;
 use state::State;
 use std::io;
 
-// The trials of these numbers have the slots and these results; trial `next` closes the generation.
+// The trials of these numbers have the slots and these results, all complete; trial `next` closes the generation.
 fn close(state: State, numbers: [u64; 4], results: [f64; 4], next: u64) -> State {
-    sample_slices(state, unit_interval(), next, &numbers, &results).state
+    let states = [TrialState::Complete; 4];
+    sample_slices(state, unit_interval(), next, &numbers, &results, &states).state
 }
 
 // The look call gives four values, these, and this best slot and these counts.

@@ -2,6 +2,7 @@
 use crate::given::{float, int};
 use crate::show::figure;
 use distribution::ParamValue;
+use history::TrialState;
 use rng_util::Gen;
 use std::io;
 
@@ -62,10 +63,30 @@ pub fn steps(rt: &impl Print) -> io::Result<()> {
     )
 }
 
-pub fn last_entry(rt: &impl Print) -> io::Result<()> {
+// What trial 7 has whose entries are 5, complete, and then 2 in this state.
+fn result_of_7(last: TrialState) -> Option<f64> {
     let numbers = [7u64; 2];
     let values = [5.0f64, 2.0];
+    let states = [TrialState::Complete, last];
     let from = history::Gathered::new();
-    let g = history::gather_slices(&numbers, &values, 7, 7, &[7], from);
-    figure(rt, "history (7, 5), (7, 2)", g.values[0] == Some(2.0))
+    let g = history::gather_slices(&numbers, &values, &states, 7, 7, &[7], from);
+    g.values[0]
+}
+
+pub fn last_entry(rt: &impl Print) -> io::Result<()> {
+    figure(
+        rt,
+        "history (7, 5), (7, 2)",
+        result_of_7(TrialState::Complete) == Some(2.0),
+    )?;
+    figure(
+        rt,
+        "history (7, 5), (7, 2) pruned: +infinity",
+        result_of_7(TrialState::Pruned) == Some(f64::INFINITY),
+    )?;
+    figure(
+        rt,
+        "history (7, 5), (7, 2) failed: +infinity",
+        result_of_7(TrialState::Failed) == Some(f64::INFINITY),
+    )
 }

@@ -3,10 +3,13 @@ use crate::answers::{is_refused, refused};
 use crate::calls::{discovered, fresh, refusal};
 use crate::given::{float, int, unit_interval};
 use crate::show::figure;
+use de::Sampled;
 use de::build::DESamplerBuilder;
 use de::sample::sample_slices;
 use distribution::{CategoricalDistribution, Distribution};
+use history::TrialState;
 use slots::look;
+use state::State;
 use std::io;
 
 // 1 and 2.
@@ -45,11 +48,27 @@ pub fn states(rt: &impl Print) -> io::Result<()> {
     figure(rt, "look at N = 3 is 0", is_refused(look(&state).look, 0))
 }
 
-// 8.
+// A call whose history has NaN in this state.
+fn with_nan(state: State, how: TrialState) -> Sampled {
+    sample_slices(state, unit_interval(), 3, &[7], &[f64::NAN], &[how])
+}
+
+// 8, which is for complete entries alone.
 pub fn histories(rt: &impl Print) -> io::Result<()> {
     let state = discovered(4);
-    let numbers = [7u64; 1];
-    let values = [f64::NAN; 1];
-    let s = sample_slices(state, unit_interval(), 3, &numbers, &values);
-    figure(rt, "history (7, NaN) is 8", refused(&state, s, 8))
+    figure(
+        rt,
+        "history (7, NaN) is 8",
+        refused(&state, with_nan(state, TrialState::Complete), 8),
+    )?;
+    figure(
+        rt,
+        "history (7, NaN) pruned passes",
+        with_nan(state, TrialState::Pruned).answer.is_ok(),
+    )?;
+    figure(
+        rt,
+        "history (7, NaN) failed passes",
+        with_nan(state, TrialState::Failed).answer.is_ok(),
+    )
 }
