@@ -9,6 +9,7 @@ use lib.IntN.{pos, negsuc}
 use lib.ListN.{replicate}
 use lib.Ieee.{Float, fin, binary64, round}
 use Rattle.history.specs.declared.CompletedTrial.{CompletedTrial}
+use Rattle.history.specs.declared.TrialState.TheVariants.{Complete}
 use Rattle.std.specs.Prelude.{Option, Some, None, Ok, Err}
 use Rattle.numbers.specs.Numbers.{digit_of, all_digits, spelt_after}
 use Rattle.metrics.specs.Pieces.{cut_at, split_at}
@@ -25,7 +26,7 @@ abbrev value : String → Option Float
 value text = value_word (bytes text)
 
 abbrev trial : ℕ → Float → CompletedTrial
-trial n x = record { number = n; value = x }
+trial n x = record { number = n; value = x; state = Complete }
 
 abbrev one : Float
 one = fin false 1 (pos 0)

@@ -11,6 +11,7 @@ use lib.Ieee.{Float}
 use lib.ListN.{length}
 use borrow.Author.Tests.{le-leb, lt-ltb, leb-true, ltb-true, eqb-true}
 use Rattle.history.specs.declared.CompletedTrial.{CompletedTrial}
+use Rattle.history.specs.declared.TrialState.TheVariants.{Complete}
 use Rattle.std.specs.Prelude.{Option, Some, None}
 use Rattle.numbers.specs.Numbers.{digit_of, all_digits, spelt_after}
 use Rattle.metrics.specs.Pieces.{Halves, whole, halves, split_at}
@@ -158,11 +159,11 @@ pub line-back : (line : List ℕ) (t : CompletedTrial) → line_of line ≡ Some
 unfolding line_of
 line-back line t e = go (split_at (code ",") line) (split-back (code ",") line) e
   where
-    parts : (n v : List ℕ) (k : ℕ) (x : Float) → line ≡ n ++ code "," ∷ v → Number n k → Value v x → Some (record { number = k; value = x }) ≡ Some t
+    parts : (n v : List ℕ) (k : ℕ) (x : Float) → line ≡ n ++ code "," ∷ v → Number n k → Value v x → Some (record { number = k; value = x; state = Complete }) ≡ Some t
         → (p : Parts) × (Lawful p × (line ≡ body_text p) × (t ≡ meant p))
     parts n v k x q a b h =
         let p : Parts = record { number = n; minus = b.0; whole = b.1; fraction = b.2 } in
-        let same : t ≡ record { number = k; value = x } = cc in (
+        let same : t ≡ record { number = k; value = x; state = Complete } = cc in (
           p,
           (
             record {
@@ -175,7 +176,7 @@ line-back line t e = go (split_at (code ",") line) (split-back (code ",") line) 
               few = b.3.1.2;
             },
             q ∙ ap (λ (y : List ℕ). n ++ code "," ∷ y) b.3.0,
-            same ∙ ap (λ (y : ℕ). record { number = y; value = x }) a.4 ∙ ap (λ (y : Float). record { number = spelt_after 10 0 n; value = y }) b.3.2,
+            same ∙ ap (λ (y : ℕ). record { number = y; value = x; state = Complete }) a.4 ∙ ap (λ (y : Float). record { number = spelt_after 10 0 n; value = y; state = Complete }) b.3.2,
           ),
         )
 

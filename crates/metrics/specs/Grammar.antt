@@ -3,6 +3,7 @@
 use Rattle.std.specs.Prelude.{ℕ, ◌+◌, ◌≤◌, ◌<◌, ◌^◌, ◌≡◌, Bool, true, cond, List, [], ◌∷◌, ◌++◌, map, eqb, length}
 use Prim.Native.Char.{code}
 use Rattle.history.specs.declared.CompletedTrial.{CompletedTrial}
+use Rattle.history.specs.declared.TrialState.TheVariants.{Complete}
 use Rattle.numbers.specs.Numbers.{all_digits, spelt_after}
 use Rattle.metrics.specs.Nearest.{nearest_double}
 
@@ -56,12 +57,14 @@ AllLawful (p ∷ ps) = Lawful p × AllLawful ps
 
 -- ---- the meaning
 
--- the decimal is ± m / 10^k, m what all its digits spell and k how many of them stand behind the point
+-- The decimal is ± m / 10^k, m what all its digits spell and k how many of them stand behind the point.
+-- "Lines of the metrics export are read as complete" (W6).
 abbrev pub meant : Parts → CompletedTrial
 meant p =
     record {
       number = spelt_after 10 0 p.number;
       value = nearest_double p.minus (spelt_after 10 0 (p.whole ++ p.fraction)) (length p.fraction);
+      state = Complete;
     }
 
 -- ---- what is read and what is refused

@@ -1,4 +1,5 @@
--- The export a line at a time, as the code goes through it: what its inner functions equal. No public contract cites this.
+-- The export a line at a time, as the code goes through it: what its inner functions equal, and the entries that `Entries` gives. Where the text is
+-- read well, those are the export's (proofs/Writes).
 use Rattle.std.specs.Prelude.{ℕ, ◌+◌, List, [], ◌∷◌, cond, leb, length, Option, Some, None, option_map, Result, Ok, Err}
 use Prim.Native.Char.{code}
 use Rattle.history.specs.declared.CompletedTrial.{CompletedTrial}

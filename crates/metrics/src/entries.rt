@@ -1,4 +1,4 @@
-// The entries of a text, one after another.
+// The entries of a text, one after another: public beside `judge`, for a caller that keeps entries in a form of its own.
 use crate::line::next_line;
 use history::CompletedTrial;
 

@@ -10,7 +10,7 @@ use history::CompletedTrial;
 use line::next_line;
 
 mod cut;
-mod entries;
+pub mod entries;
 mod line;
 mod value;
 
@@ -37,7 +37,7 @@ impl ExportRefusal {
 // Counted by hand. It is not `(&mut entries).count()`, which says nothing of what it leaves in `entries`: tried, and
 // `returns-then-not-is_empty` stays open, where what is left tells a malformed line from the end.
 #[tactic(auto, using(crate::proofs::Lines::judged))]
-fn judge(text: &[u8], places: usize) -> Result<usize, ExportRefusal>
+pub fn judge(text: &[u8], places: usize) -> Result<usize, ExportRefusal>
     ensures { result ≡ answer_of places (export_of text.now) }
 {
     let mut left = text;
@@ -79,7 +79,7 @@ pub fn read_history_slices(
     Ok(count)
 }
 
-// The export read into a lent history: how many entries there are.
+// The export read into a lent history: how many entries there are. For callers in Rattle; C's entries are read by `files`.
 // The loop of the other form again: one loop for both would hand each entry to an `FnMut` that writes to one slice here and to two there, and the
 // law of what that closure has written would be longer than the loop.
 #[tactic(auto, using(crate::proofs::Writes::writes))]
