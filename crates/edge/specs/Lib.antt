@@ -1,5 +1,6 @@
 pub mod Flat
 pub mod Known
+pub mod Trial
 pub mod Answers
 pub mod Build
 pub mod Look

@@ -14,8 +14,8 @@ pub struct DeCall {
     pub distribution: DeDistribution,
 }
 
-// kind: 0 refused, with document 01's number; 1 float, 2 int, 3 choice; 4 a number of the call or set-up names no case; 5 a
-// state is made; 6 there is no such slot or dimension. Kind and refusal are numbers, since no enum can cross to C.
+// kind: 0 refused, with document 01's number; 1 float, 2 int, 3 choice; 4 a number of the call, of its history or of the set-up names
+// no case; 5 a state is made; 6 there is no such slot or dimension. Kind and refusal are numbers, since no enum can cross to C.
 #[repr(C)]
 #[derive(Clone, Copy)]
 pub struct DeAnswer {

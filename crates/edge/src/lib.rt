@@ -9,3 +9,4 @@ pub mod flatten;
 pub mod held;
 pub mod internal;
 pub mod look;
+pub mod trial;

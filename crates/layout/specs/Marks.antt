@@ -10,7 +10,6 @@ use Rattle.evolution.specs.declared.Member.{Member}
 use Rattle.selection.specs.Records.{blank_member}
 use Rattle.state.specs.Blank.{blank_trial}
 use Rattle.state.specs.declared.TrialProgress.{TrialProgress}
-use Rattle.history.specs.declared.CompletedTrial.{CompletedTrial}
 use Rattle.edge.specs.declared.answers.DeAnswer.{DeAnswer}
 use Rattle.edge.specs.declared.answers.DeCall.{DeCall}
 use Rattle.files.specs.declared.file.DeFile.{DeFile}
@@ -21,6 +20,7 @@ use Rattle.edge.specs.declared.flat.DeState.{DeState}
 use Rattle.edge.specs.declared.internal.DeInternal.{DeInternal}
 use Rattle.edge.specs.declared.internal.DeSetting.{DeSetting}
 use Rattle.edge.specs.declared.look.DeLook.{DeLook}
+use Rattle.edge.specs.declared.trial.DeCompletedTrial.{DeCompletedTrial}
 use Rattle.layout.specs.declared.marks.DeMarks.{DeMarks}
 
 -- the number as a double
@@ -80,9 +80,9 @@ unfoldable pub internal_marks : DeInternal
 unfolding of_int
 internal_marks = record { kind = 1; refusal = 2; value = real 3 }
 
-unfoldable pub completed_marks : CompletedTrial
+unfoldable pub completed_marks : DeCompletedTrial
 unfolding of_int
-completed_marks = record { number = 1; value = real 2 }
+completed_marks = record { number = 1; value = real 2; state = 3 }
 
 abbrev pub file_marks : DeFile
 file_marks = record { kind = 1; refusal = 2; length = 3 }

@@ -15,9 +15,9 @@ use edge::answers::{DeAnswer, DeCall};
 use edge::flat::{DeDistribution, DeSetup, DeState};
 use edge::internal::{DeInternal, DeSetting};
 use edge::look::DeLook;
+use edge::trial::DeCompletedTrial;
 use files::file::DeFile;
 use files::read::DeRead;
-use history::CompletedTrial;
 use selection::blank_member;
 use state::TrialProgress;
 
@@ -38,7 +38,7 @@ pub struct DeMarks {
     pub after_setting: u64,
     pub internal: DeInternal,
     pub after_internal: u64,
-    pub trial: CompletedTrial,
+    pub trial: DeCompletedTrial,
     pub after_trial: u64,
     pub state: DeState,
     pub after_state: u64,

@@ -8,10 +8,10 @@ use edge::answers::DeAnswer;
 use edge::flat::{DeDistribution, DeSetup};
 use edge::internal::{DeInternal, DeSetting};
 use edge::look::DeLook;
+use edge::trial::DeCompletedTrial;
 use evolution::Member;
 use files::file::DeFile;
 use files::read::DeRead;
-use history::CompletedTrial;
 use state::TrialProgress;
 
 // Blank items, but for the first and the last.
@@ -139,12 +139,13 @@ pub fn internal_marks() -> DeInternal
 }
 
 #[tactic(auto, using(crate::proofs::Reals::reals), unfolding(crate::specs::Marks::completed_marks))]
-pub fn completed_marks() -> CompletedTrial
+pub fn completed_marks() -> DeCompletedTrial
     ensures { result ≡ completed_marks }
 {
-    CompletedTrial {
+    DeCompletedTrial {
         number: 1,
         value: 2.0,
+        state: 3,
     }
 }
 
