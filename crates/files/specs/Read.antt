@@ -1,7 +1,8 @@
 -- The read call in numbers.
 use Rattle.std.specs.Prelude.{ℕ, List, length, Result, Ok, Err}
-use Rattle.history.specs.declared.CompletedTrial.{CompletedTrial}
-use Rattle.metrics.specs.Export.{export_refusal_number, export_of, answer_of, left_in, entry_of}
+use Rattle.edge.specs.declared.trial.DeCompletedTrial.{DeCompletedTrial}
+use Rattle.edge.specs.Trial.{flat_trial}
+use Rattle.metrics.specs.Export.{export_refusal_number, export_of, answer_of, left_in}
 use Rattle.metrics.specs.declared.ExportRefusal.{ExportRefusal}
 use Rattle.metrics.specs.declared.ExportRefusal.TheVariants.{MalformedLine, ShortHistory}
 use Rattle.files.specs.declared.read.DeRead.{DeRead}
@@ -21,5 +22,5 @@ abbrev pub read_answer : List ℕ → ℕ → DeRead
 read_answer text places = read_in (answer_of places (export_of text))
 
 -- what the lent history holds after the call
-abbrev pub read_history : List ℕ → List CompletedTrial → List CompletedTrial
-read_history text lent = left_in entry_of (length lent) (export_of text) lent
+abbrev pub read_history : List ℕ → List DeCompletedTrial → List DeCompletedTrial
+read_history text lent = left_in flat_trial (length lent) (export_of text) lent

@@ -1,8 +1,11 @@
 // The read call (document 02, W3).
-ghost use Rattle.std.specs.Prelude.{◌≡◌};
-ghost use Rattle.files.specs.Read.{line_in, read_in};
+ghost use Rattle.std.specs.Prelude.{◌≡◌, length};
+ghost use Rattle.metrics.specs.Export.{export_of, answer_of};
+ghost use Rattle.files.specs.Read.{line_in, read_in, read_history};
 
-use metrics::ExportRefusal;
+use edge::trial::DeCompletedTrial;
+use metrics::entries::Entries;
+use metrics::{ExportRefusal, judge};
 
 // kind: 0 refused, by check 14 with the malformed line's number, or by 15; 1 read, `count` entries. Fields that a kind does
 // not use are 0. Kind and refusal are numbers, since no enum can cross to C.
@@ -43,4 +46,17 @@ impl From<Result<usize, ExportRefusal>> for DeRead {
             },
         }
     }
+}
+
+// The export read into C's entries: how many there are. The loop of `metrics` again, for entries whose state is a number.
+#[tactic(auto, using(metrics::proofs::Writes::writes))]
+pub fn read_into(text: &[u8], history: &mut [DeCompletedTrial]) -> Result<usize, ExportRefusal>
+    ensures answer { result ≡ answer_of (length history.old) (export_of text.now) }
+    ensures after { history.new ≡ read_history text.now history.old }
+{
+    let count = judge(text, history.len())?;
+    for (i, entry) in Entries(text).enumerate() {
+        history[i] = DeCompletedTrial::from(entry);
+    }
+    Ok(count)
 }
