@@ -22,7 +22,7 @@ abbrev pub heard_of : List ℕ → ℕ → List ℕ → Option Command → Resul
 heard_of text n f None = Err Malformed
 heard_of text n f (Some Skip) = Ok None
 heard_of text n f (Some Clear) = Ok None
-heard_of text n f (Some (Tell number value)) = settled (told_to 65536 n)
+heard_of text n f (Some (Tell entry)) = settled (told_to 65536 n)
 heard_of text n f (Some (File length)) = settled (made_to 81920 length)
 heard_of text n f (Some (Put at)) = settled (put_to at (put_bytes text) f)
 heard_of text n f (Some (Ask question)) = Ok (Some question)

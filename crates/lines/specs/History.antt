@@ -1,5 +1,5 @@
 -- The history that the lines of a script make.
-use Rattle.std.specs.Prelude.{ℕ, Float, cond, List, [], ◌∷◌, ◌++◌, length, ltb, Result, Ok, Err, ⊤}
+use Rattle.std.specs.Prelude.{ℕ, cond, List, [], ◌∷◌, ◌++◌, length, ltb, Result, Ok, Err, ⊤}
 use Rattle.history.specs.declared.CompletedTrial.{CompletedTrial}
 use Rattle.script.specs.declared.command.Command.{Command}
 use Rattle.script.specs.declared.command.Command.TheVariants.{Skip, Clear, Tell, File, Put, Ask}
@@ -11,13 +11,13 @@ abbrev pub told_to : ℕ → ℕ → Result ⊤ Stop
 told_to room n = cond (ltb n room) (Ok tt) (Err Malformed)
 
 -- "`tell` appends an entry", where there is room for it
-abbrev pub entry_told : ℕ → ℕ → Float → List CompletedTrial → List CompletedTrial
-entry_told room number value h = cond (ltb (length h) room) (h ++ (record { number = number; value = value } ∷ [])) h
+abbrev pub entry_told : ℕ → CompletedTrial → List CompletedTrial → List CompletedTrial
+entry_told room entry h = cond (ltb (length h) room) (h ++ (entry ∷ [])) h
 
 -- "`clear` empties the history"; what a `tell` makes of it
 abbrev pub history_after : Command → List CompletedTrial → List CompletedTrial
 history_after Clear h = []
-history_after (Tell number value) h = entry_told 65536 number value h
+history_after (Tell entry) h = entry_told 65536 entry h
 history_after Skip h = h
 history_after (File length) h = h
 history_after (Put at) h = h

@@ -24,5 +24,5 @@ file_after text (File l) f = file_made 81920 l f
 file_after text (Put at) f = put_into at (put_bytes text) f
 file_after text Skip f = f
 file_after text Clear f = f
-file_after text (Tell number value) f = f
+file_after text (Tell entry) f = f
 file_after text (Ask question) f = f

@@ -11,15 +11,14 @@ pub type History = Filled<CompletedTrial, 65536>;
 // Appends an entry, where there is a place.
 pub fn tell<const N: usize>(
     history: &mut Filled<CompletedTrial, N>,
-    number: u64,
-    value: f64,
+    entry: CompletedTrial,
 ) -> Result<(), Stop>
     ensures value { result ≡ told_to N (length history.old) }
-    ensures after { history.new ≡ entry_told N number value history.old }
+    ensures after { history.new ≡ entry_told N entry history.old }
 {
     if history.room() == 0 {
         return Err(Stop::Malformed);
     }
-    history.push(CompletedTrial { number, value });
+    history.push(entry);
     Ok(())
 }

@@ -8,7 +8,7 @@ use crate::entries::{History, tell};
 use crate::kept::{Kept, make, put};
 use crate::reader::Reader;
 use filled::Filled;
-use history::CompletedTrial;
+use history::{CompletedTrial, TrialState};
 use script::{Command, Question, parse};
 use std::io::Read;
 
@@ -26,6 +26,7 @@ impl Told {
         let none = CompletedTrial {
             number: 0,
             value: 0.0,
+            state: TrialState::Complete,
         };
         Told {
             history: Filled::new(none),
@@ -40,7 +41,7 @@ impl Told {
         match parse(line).ok_or(Stop::Malformed)? {
             Command::Skip => {}
             Command::Clear => self.history.clear(),
-            Command::Tell { number, value } => tell(&mut self.history, number, value)?,
+            Command::Tell(entry) => tell(&mut self.history, entry)?,
             Command::File(length) => make(&mut self.file, length)?,
             Command::Put(at) => put(&mut self.file, line, at)?,
             Command::Ask(question) => return Ok(Some(question)),

@@ -3,14 +3,15 @@ use Rattle.std.proofs.Common.{◌≡◌, refl, true, false, List, [], ◌∷◌,
 use Prim.Native.String.{String}
 use Rattle.std.specs.Float.Ieee.{of_bits}
 use Rattle.std.specs.Float.{binary64}
-use lib.Ieee.{of_fields, nan}
+use lib.Ieee.{Float as Double, of_fields, nan}
 use Rattle.distribution.specs.declared.Distribution.TheVariants.{Float, Int, Categorical}
 use Rattle.evolution.specs.declared.DEStrategy.TheVariants.{CurrentToBest1, Rand1}
+use Rattle.history.specs.declared.TrialState.TheVariants.{Complete, Pruned, Failed}
 use Rattle.numbers.specs.Numbers.{digit_of, all_digits, spelt_after, whole_of, pattern_of, double_of, plain, negated, int_of}
 use Rattle.script.specs.Words.{words_of, word_at}
-use Rattle.script.specs.Fields.{scale_of, strategy_of}
+use Rattle.script.specs.Fields.{scale_of, state_of, strategy_of}
 use Rattle.script.specs.Hex.{is_hex, hex_digit, hex_of, put_bytes, overwritten}
-use Rattle.script.specs.Commands.{new_line, bare_line, file_line, tell_line, put_line, pair_line, sample_float, sample_int, range_line, choice_line, line_of, command_of}
+use Rattle.script.specs.Commands.{new_line, bare_line, file_line, told, put_line, pair_line, triple_line, sample_float, sample_int, range_line, choice_line, line_of, command_of}
 use Rattle.script.specs.declared.command.Command.{Command}
 use Rattle.script.specs.declared.command.Command.TheVariants.{Skip, Clear, Tell, File, Put, Ask}
 use Rattle.script.specs.declared.command.Question.TheVariants.{New, Sample, Look, State, Save, Restore, Bytes}
@@ -18,6 +19,9 @@ use Rattle.script.specs.declared.command.Question.TheVariants.{New, Sample, Look
 -- what each of some lines says
 said : List String → List (Option Command)
 said lines = map (λ (line : String). command_of (codes line)) lines
+
+abbrev half : Double
+half = of_bits binary64 0x3fe0_0000_0000_0000
 
 each-rule : said (
     ""
@@ -27,6 +31,9 @@ each-rule : said (
     ∷ "clear"
     ∷ "tell 7 3fe0000000000000"
     ∷ "tell 007 fff0000000000001"
+    ∷ "tell 7 3fe0000000000000 complete"
+    ∷ "tell 7 3fe0000000000000 pruned"
+    ∷ "tell 7 7ff8000000000000 failed"
     ∷ "sample 7 float 0000000000000000 3ff0000000000000 lin 3fd0000000000000"
     ∷ "sample 7 int -9223372036854775808 9223372036854775807 log -"
     ∷ "sample 7 int -0 9 lin 2"
@@ -44,22 +51,25 @@ each-rule : said (
     Skip
     ∷ Skip
     ∷ Ask (New (record {
-      mutation_factor = of_bits binary64 0x3fe0_0000_0000_0000;
+      mutation_factor = half;
       crossover_rate = of_bits binary64 0x3ff0_0000_0000_0000;
       strategy = CurrentToBest1;
       population_size = None;
       seed = 18446744073709551615;
     }))
     ∷ Ask (New (record {
-      mutation_factor = of_bits binary64 0x3fe0_0000_0000_0000;
+      mutation_factor = half;
       crossover_rate = of_bits binary64 0x3ff0_0000_0000_0000;
       strategy = Rand1;
       population_size = Some 40;
       seed = 0;
     }))
     ∷ Clear
-    ∷ Tell 7 (of_bits binary64 0x3fe0_0000_0000_0000)
-    ∷ Tell 7 nan
+    ∷ Tell (record { number = 7; value = half; state = Complete })
+    ∷ Tell (record { number = 7; value = nan; state = Complete })
+    ∷ Tell (record { number = 7; value = half; state = Complete })
+    ∷ Tell (record { number = 7; value = half; state = Pruned })
+    ∷ Tell (record { number = 7; value = nan; state = Failed })
     ∷ Ask (Sample 7 (Float (record {
       low = of_bits binary64 0;
       high = of_bits binary64 0x3ff0_0000_0000_0000;
@@ -78,7 +88,7 @@ each-rule : said (
     ∷ Put 30
     ∷ []
     )
-unfolding said command_of line_of new_line bare_line file_line tell_line put_line pair_line is_hex sample_float sample_int range_line choice_line scale_of strategy_of words_of digit_of all_digits spelt_after whole_of pattern_of double_of plain negated int_of of_bits of_fields
+unfolding said command_of line_of new_line bare_line file_line told put_line pair_line triple_line is_hex sample_float sample_int range_line choice_line scale_of state_of strategy_of words_of digit_of all_digits spelt_after whole_of pattern_of double_of plain negated int_of of_bits of_fields
 each-rule = refl
 
 -- a space too many, a word too many or too few, a digit in the wrong case, a pattern too short, numbers that do not fit, words that are no keyword
@@ -89,6 +99,9 @@ each-breaks-one : said (
     ∷ "look 1"
     ∷ "tell 7"
     ∷ "tell 7 3fe0000000000000 1"
+    ∷ "tell 7 3fe0000000000000 running"
+    ∷ "tell 7 3fe0000000000000 pruned "
+    ∷ "told 7 3fe0000000000000 pruned"
     ∷ "tell 7 3FE0000000000000"
     ∷ "tell 7 3fe"
     ∷ "tell 18446744073709551616 3fe0000000000000"
@@ -112,8 +125,8 @@ each-breaks-one : said (
     ∷ "put 18446744073709551616 00"
     ∷ []
     )
-    ≡ replicate 27 None
-unfolding said command_of line_of new_line bare_line file_line tell_line put_line pair_line is_hex sample_float sample_int range_line choice_line scale_of strategy_of words_of digit_of all_digits spelt_after whole_of pattern_of double_of plain negated int_of of_bits of_fields
+    ≡ replicate 30 None
+unfolding said command_of line_of new_line bare_line file_line told put_line pair_line triple_line is_hex sample_float sample_int range_line choice_line scale_of state_of strategy_of words_of digit_of all_digits spelt_after whole_of pattern_of double_of plain negated int_of of_bits of_fields
 each-breaks-one = refl
 
 -- the bytes of a `put` line, and where they go

@@ -4,9 +4,11 @@ use Rattle.std.specs.Prelude.{ℕ, Bool, ◌&&◌, cond, List, [], ◌∷◌, eq
 use Prim.Native.Char.{code}
 use Rattle.distribution.specs.declared.Distribution.{Distribution}
 use Rattle.distribution.specs.declared.Distribution.TheVariants.{Float, Int, Categorical}
+use Rattle.history.specs.declared.TrialState.{TrialState}
+use Rattle.history.specs.declared.TrialState.TheVariants.{Complete}
 use Rattle.numbers.specs.Numbers.{whole_of, double_of, int_of}
 use Rattle.script.specs.Words.{words_of, is}
-use Rattle.script.specs.Fields.{scale_of, unset_or, strategy_of}
+use Rattle.script.specs.Fields.{scale_of, unset_or, state_of, strategy_of}
 use Rattle.script.specs.Hex.{is_hex}
 use Rattle.script.specs.Reads.{◌>>=◌}
 use Rattle.script.specs.declared.command.Command.{Command}
@@ -49,12 +51,22 @@ file_line key length = when (is key "file") (do
   n ← whole_of length
   Some (File n))
 
--- `tell TRIAL VALUE`
-unfoldable pub tell_line : List ℕ → List ℕ → Option Command
-tell_line trial value = do
+-- an entry with a number, a value and this state
+unfoldable pub told : List ℕ → List ℕ → TrialState → Option Command
+told trial value state = do
   number ← whole_of trial
   x ← double_of value
-  Some (Tell number x)
+  Some (Tell (record { number = number; value = x; state = state }))
+
+-- `tell TRIAL VALUE`: without a STATE the entry is complete
+abbrev pub tell_line : List ℕ → List ℕ → Option Command
+tell_line trial value = told trial value Complete
+
+-- `tell TRIAL VALUE STATE`
+abbrev pub tell_state_line : List ℕ → List ℕ → List ℕ → Option Command
+tell_state_line trial value word = do
+  state ← state_of word
+  told trial value state
 
 -- `put OFFSET HEX`
 unfoldable pub put_line : List ℕ → List ℕ → Option Command
@@ -103,13 +115,17 @@ choice_line key trial kind count = when (is key "sample" && is kind "choice") (d
   n ← whole_of count
   sampled number (Categorical (record { n_choices = n })))
 
+-- one of the two
+unfoldable pub triple_line : List ℕ → List ℕ → List ℕ → List ℕ → Option Command
+triple_line key a b c = cond (is key "tell") (tell_state_line a b c) (choice_line key a b c)
+
 -- the rows by their number of words; a line of another number has no row
 unfoldable pub line_of : List (List ℕ) → Option Command
 line_of [] = None
 line_of (key ∷ []) = bare_line key
 line_of (key ∷ length ∷ []) = file_line key length
 line_of (key ∷ a ∷ b ∷ []) = pair_line key a b
-line_of (key ∷ trial ∷ kind ∷ count ∷ []) = choice_line key trial kind count
+line_of (key ∷ a ∷ b ∷ c ∷ []) = triple_line key a b c
 line_of (key ∷ a ∷ b ∷ c ∷ d ∷ []) = None
 line_of (key ∷ f ∷ cr ∷ strategy ∷ size ∷ seed ∷ []) = new_line key f cr strategy size seed
 line_of (key ∷ trial ∷ kind ∷ low ∷ high ∷ scale ∷ step ∷ []) = range_line key trial kind low high scale step

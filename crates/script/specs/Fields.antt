@@ -2,6 +2,8 @@
 use Rattle.std.specs.Prelude.{ℕ, true, false, Bool, cond, List, Option, Some, None, option_map, MatchBool, ◌≡◌}
 use Rattle.evolution.specs.declared.DEStrategy.{DEStrategy}
 use Rattle.evolution.specs.declared.DEStrategy.TheVariants.{Rand1, Best1, CurrentToBest1}
+use Rattle.history.specs.declared.TrialState.{TrialState}
+use Rattle.history.specs.declared.TrialState.TheVariants.{Complete, Pruned, Failed}
 use Rattle.script.specs.Words.{is}
 
 -- "SCALE is `lin` or `log`"
@@ -15,6 +17,13 @@ unset_or number w = cond (is w "-") (Some None) (option_map Some number)
 -- the same of what a reader may read a word as
 abbrev pub OptionalBy : {A : Type 0} → (Option A → Type 0) → List ℕ → Option (Option A) → Type 0
 OptionalBy reads w r = MatchBool (is w "-") (r ≡ Some None) ((number : Option _) × reads number × (r ≡ option_map Some number))
+
+-- "STATE is `complete`, `pruned` or `failed`"
+unfoldable pub state_of : List ℕ → Option TrialState
+state_of w =
+    cond (is w "complete") (Some Complete)
+    (cond (is w "pruned") (Some Pruned)
+    (cond (is w "failed") (Some Failed) None))
 
 -- "STRATEGY is `rand1`, `best1` or `current-to-best1`"
 unfoldable pub strategy_of : List ℕ → Option DEStrategy

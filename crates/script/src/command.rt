@@ -1,13 +1,14 @@
 // What a line says.
 ghost use Rattle.std.specs.Prelude.{◌≡◌, map};
-ghost use Rattle.script.specs.Commands.{new_line, tell_line, put_line};
+ghost use Rattle.script.specs.Commands.{new_line, told, put_line};
 ghost use Rattle.script.specs.Commands.{sample_float, sample_int, range_line, choice_line, line_of, command_of};
 
-use crate::fields::{optional, scale, strategy};
+use crate::fields::{optional, scale, state, strategy};
 use crate::hex::is_hex;
 use crate::words::{count, first_words};
 use distribution::{CategoricalDistribution, Distribution, FloatDistribution, IntDistribution};
 use evolution::Setup;
+use history::{CompletedTrial, TrialState};
 use numbers::{read_double, read_int, read_whole};
 
 #[derive(Clone, Copy)]
@@ -15,7 +16,7 @@ pub enum Command {
     // An empty line, or a comment: passed over.
     Skip,
     Clear,
-    Tell { number: u64, value: f64 },
+    Tell(CompletedTrial),
     // So many zero bytes.
     File(u64),
     // The place of the first byte; the bytes are in the line (`put_bytes`).
@@ -55,15 +56,16 @@ fn new(key: &[u8], f: &[u8], cr: &[u8], by: &[u8], size: &[u8], seed: &[u8]) -> 
     }
 }
 
-// `tell TRIAL VALUE`, its keyword seen.
-#[tactic(auto, unfolding(crate::specs::Commands::tell_line))]
-fn tell(trial: &[u8], value: &[u8]) -> Option<Command>
-    ensures { result ≡ tell_line trial.now value.now }
+// `tell TRIAL VALUE`, with or without its STATE, which is read already.
+#[tactic(auto, unfolding(crate::specs::Commands::told))]
+fn tell(trial: &[u8], value: &[u8], state: TrialState) -> Option<Command>
+    ensures { result ≡ told trial.now value.now state }
 {
-    Some(Command::Tell {
+    Some(Command::Tell(CompletedTrial {
         number: read_whole(trial)?,
         value: read_double(value)?,
-    })
+        state,
+    }))
 }
 
 // `put OFFSET HEX`, its keyword seen.
@@ -147,9 +149,9 @@ fn choice(key: &[u8], trial: &[u8], kind: &[u8], count: &[u8]) -> Option<Command
     }))
 }
 
-// The rule that the words of a line meet. The keywords of the longer rules are tested by their functions: tried as patterns here, and
-// `returns-in-new` and `returns-in-sample` stay open.
-#[tactic(auto, unfolding(crate::specs::Commands::line_of, crate::specs::Commands::bare_line, crate::specs::Commands::file_line, crate::specs::Commands::pair_line))]
+// The rule that the words of a line meet. The keywords of the longer rules are tested by a guard or by their functions: tried as patterns
+// here, and `returns-in-new` and `returns-in-sample` stay open, and `returns-in-len4` for the second `tell`.
+#[tactic(auto, unfolding(crate::specs::Commands::line_of, crate::specs::Commands::bare_line, crate::specs::Commands::file_line, crate::specs::Commands::pair_line, crate::specs::Commands::triple_line))]
 fn rule(words: &[&[u8]]) -> Option<Command>
     ensures { result ≡ line_of (map (λ w. w.now) words.now) }
 {
@@ -161,8 +163,9 @@ fn rule(words: &[&[u8]]) -> Option<Command>
         [b"restore"] => Some(Command::Ask(Question::Restore)),
         [b"bytes"] => Some(Command::Ask(Question::Bytes)),
         [b"file", length] => read_whole(length).map(Command::File),
-        [b"tell", trial, value] => tell(trial, value),
+        [b"tell", trial, value] => tell(trial, value, TrialState::Complete),
         [b"put", offset, hex] => put(offset, hex),
+        [key, trial, value, word] if key == b"tell".as_slice() => tell(trial, value, state(word)?),
         [key, trial, kind, count] => choice(key, trial, kind, count),
         [key, f, cr, by, size, seed] => new(key, f, cr, by, size, seed),
         [key, trial, kind, low, high, log, step] => {

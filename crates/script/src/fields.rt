@@ -1,8 +1,9 @@
 // The words that are neither keywords nor numbers.
 ghost use Rattle.std.specs.Prelude.{◌≡◌};
-ghost use Rattle.script.specs.Fields.{scale_of, strategy_of, OptionalBy};
+ghost use Rattle.script.specs.Fields.{scale_of, state_of, strategy_of, OptionalBy};
 
 use evolution::DEStrategy;
+use history::TrialState;
 
 // SCALE.
 #[tactic(auto, unfolding(crate::specs::Fields::scale_of))]
@@ -12,6 +13,19 @@ pub fn scale(word: &[u8]) -> Option<bool>
     match word {
         b"lin" => Some(false),
         b"log" => Some(true),
+        _ => None,
+    }
+}
+
+// STATE.
+#[tactic(auto, unfolding(crate::specs::Fields::state_of))]
+pub fn state(word: &[u8]) -> Option<TrialState>
+    ensures { result ≡ state_of word.now }
+{
+    match word {
+        b"complete" => Some(TrialState::Complete),
+        b"pruned" => Some(TrialState::Pruned),
+        b"failed" => Some(TrialState::Failed),
         _ => None,
     }
 }

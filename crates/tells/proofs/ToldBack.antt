@@ -14,8 +14,9 @@ use Rattle.std.specs.Prelude.{Some, None}
 use Rattle.numbers.proofs.RoundTrip.{decimal-read-back, double-read-back}
 use Rattle.metrics.specs.declared.ExportRefusal.{ExportRefusal}
 use Rattle.metrics.specs.declared.ExportRefusal.TheVariants.{MalformedLine, ShortHistory}
+use Rattle.history.specs.declared.TrialState.TheVariants.{Complete}
 use Rattle.script.specs.Words.{words_of}
-use Rattle.script.specs.Commands.{command_of, line_of, pair_line, tell_line, file_line}
+use Rattle.script.specs.Commands.{command_of, line_of, pair_line, told, file_line}
 use Rattle.script.specs.declared.command.Command.TheVariants.{Tell}
 use Rattle.tells.specs.Text.{places_from, whole_text, pattern_text, tell_row, refused_row}
 use Rattle.tells.proofs.Joined.{fourteen, fifteen}
@@ -68,9 +69,9 @@ tell-words n x =
 
 -- ---- the reader's answers
 
--- A `tell` row is read as the `tell` of its number and its value. Every u64 and every f64 meets the two premises.
-pub told_back : (n : ℕ) (x : Float) → n < 2 ^ 64 → T (fits binary64 x) → command_of (tell_row n x) ≡ Some (Tell n x)
-unfolding tell_row command_of line_of pair_line tell_line words_of
+-- A `tell` row is read as the `tell` of the complete entry of its number and its value, which is the export's (metrics Grammar). Every u64 and every f64 meets the two premises.
+pub told_back : (n : ℕ) (x : Float) → n < 2 ^ 64 → T (fits binary64 x) → command_of (tell_row n x) ≡ Some (Tell (record { number = n; value = x; state = Complete }))
+unfolding tell_row command_of line_of pair_line told words_of
 told_back n x h f = rw (tell-words n x, whole_back n h, double-back x f)
 
 -- a refusal is no line of a script, so that a script that holds it is malformed there
