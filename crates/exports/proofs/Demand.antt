@@ -4,7 +4,7 @@ use Rattle.std.specs.Prelude.{Option, Some, None, Ok, Err, ⊤, is_ok, Result}
 use Prim.Native.Nat.{ℕ}
 use mathlib.Core.Path.{◌≡◌, refl, sym, ap, subst, ◌∙◌}
 use mathlib.Core.Bool.{Bool, true, false, cond, true≢false}
-use mathlib.Core.List.{List, [], ◌∷◌}
+use mathlib.Core.List.{List, [], ◌∷◌, map}
 use Rattle.distribution.specs.declared.ParamValue.{ParamValue}
 use Rattle.distribution.specs.declared.ParamValue.TheVariants as P
 use Rattle.evolution.specs.declared.Setup.{Setup}
@@ -22,6 +22,7 @@ use Rattle.kernel.proofs.Kernel.{de-laws}
 use Rattle.state.specs.Setup.{setup_verdict}
 use Rattle.state.specs.View.{view}
 use Rattle.state.specs.declared.State.{State}
+use Rattle.state.proofs.Flags.{and-true}
 use Rattle.de.specs.Build.{built_by, built_of, fresh_state}
 use Rattle.de.specs.Program.{program}
 use Rattle.de.specs.Sample.{sample_of}
@@ -32,10 +33,11 @@ use Rattle.edge.specs.declared.answers.DeAnswer.{DeAnswer}
 use Rattle.edge.specs.Flat.{distribution_of, setup_of, open_of, flat_of}
 use Rattle.edge.specs.Known.{known_setup}
 use Rattle.edge.specs.Answers.{bare_answer, setting_answer, answered, told}
-use Rattle.exports.specs.Calls.{sample_answer, sample_state, made_state, new_state}
+use Rattle.edge.specs.Trial.{trial_of}
+use Rattle.exports.specs.Calls.{sample_state, made_state, new_state}
 use Rattle.edge.specs.Build.{built_answer, settled_setup, fresh_flat}
-use Rattle.exports.specs.Program.{Sent, is_known, meant, meant_by, read_answer, called, spelled, library, reads_from, LibraryDemand3}
-use Rattle.exports.proofs.Edge.{distribution-back, distribution-known, lossless, held_after, one_answer, one_state, same_answer, same_state, unknown-answer, unknown-state}
+use Rattle.exports.specs.Program.{Sent, is_known, meant, meant_by, read_answer, answer_to, leaves, called, spelled, library, reads_from, LibraryDemand3}
+use Rattle.exports.proofs.Edge.{distribution-back, trials-back, distribution-known, trials-known, lossless, held_after, one_answer, one_state, same_answer, same_state, unknown-answer, unknown-state}
 use Rattle.distribution.specs.declared.Refusal.{Refusal}
 
 -- ---- what a caller reads is the sampler's answer
@@ -70,34 +72,52 @@ sample-unmoved S m c = go (sound_test de S m)
     go true = outcome-unmoved m (or_else (call_refusal de c) (state_refusal de m.size m c)) (accept de S m.size m c)
     go false = refl
 
+-- ---- a call in numbers
+
+spelled-known : (c : Call de) → is_known (spelled c) ≡ true
+spelled-known c = and-true (distribution-known c.distribution.distribution) (trials-known c.history)
+
+-- a known call is answered as the call that its numbers stand for, whatever the memory holds
+module _ (g : DeState) (q : Sent) (k : is_known q ≡ true) where
+  abbrev c : Call de
+  c = meant q
+
+  pub meant_answer : answer_to g q ≡ answer_to g (spelled (meant q))
+  meant_answer =
+      same_answer g q.call (spelled c).call q.history (spelled c).history (k ∙ sym (spelled-known c)) (sym (distribution-back c.distribution.distribution)) refl (sym (trials-back c.history))
+
+  pub meant_state : leaves g q ≡ leaves g (spelled (meant q))
+  meant_state =
+      same_state g q.call (spelled c).call q.history (spelled c).history (k ∙ sym (spelled-known c)) (sym (distribution-back c.distribution.distribution)) refl (sym (trials-back c.history))
+
 -- ---- a call on the memory that holds s
 
 module _ (s : State) (c : Call de) where
   abbrev result : Returned de State
   result = sample_of s c.distribution.distribution c.number c.history
 
-  answer-is : sample_answer (flat_of s) (spelled c).call c.history ≡ told (answered result.answer result.draws)
-  answer-is =
-      one_answer s (spelled c).call c.history (distribution-known c.distribution.distribution)
-      ∙ ap (λ (r : Returned de State). told (answered r.answer r.draws)) (ap (λ d. sample_of s d c.number c.history) (distribution-back c.distribution.distribution))
+  -- what the numbers of a call stand for is the call
+  spelled-back : sample_of s (distribution_of (spelled c).call.distribution) c.number (map trial_of (spelled c).history) ≡ result
+  spelled-back = λ i. sample_of s (distribution-back c.distribution.distribution i) c.number (trials-back c.history i)
 
-  state-is : sample_state (flat_of s) (spelled c).call c.history ≡ held_after result.answer s result.state
-  state-is =
-      one_state s (spelled c).call c.history (distribution-known c.distribution.distribution)
-      ∙ ap (λ (r : Returned de State). held_after r.answer s r.state) (ap (λ d. sample_of s d c.number c.history) (distribution-back c.distribution.distribution))
+  answer-is : answer_to (flat_of s) (spelled c) ≡ told (answered result.answer result.draws)
+  answer-is = one_answer s (spelled c).call (spelled c).history (spelled-known c) ∙ ap (λ (r : Returned de State). told (answered r.answer r.draws)) spelled-back
+
+  state-is : leaves (flat_of s) (spelled c) ≡ held_after result.answer s result.state
+  state-is = one_state s (spelled c).call (spelled c).history (spelled-known c) ∙ ap (λ (r : Returned de State). held_after r.answer s r.state) spelled-back
 
 -- what a call returns that the sampler refuses, and one that it accepts
 given_is : (s : State) (c : Call de) (x : ParamValue) → (result s c).answer ≡ Plain.given x
     → called (flat_of s) (spelled c) ≡ record { answer = Plain.given x; draws = (result s c).draws; state = flat_of (result s c).state }
 given_is s c x e =
-    let a : sample_answer (flat_of s) (spelled c).call c.history ≡ setting_answer x (result s c).draws = answer-is s c ∙ ap (λ (z : Plain.Answer de). told (answered z (result s c).draws)) e in
-    let m : sample_state (flat_of s) (spelled c).call c.history ≡ flat_of (result s c).state = state-is s c ∙ ap (λ (z : Plain.Answer de). held_after z s (result s c).state) e in
+    let a : answer_to (flat_of s) (spelled c) ≡ setting_answer x (result s c).draws = answer-is s c ∙ ap (λ (z : Plain.Answer de). told (answered z (result s c).draws)) e in
+    let m : leaves (flat_of s) (spelled c) ≡ flat_of (result s c).state = state-is s c ∙ ap (λ (z : Plain.Answer de). held_after z s (result s c).state) e in
     λ i. record { answer = (ap read_answer a ∙ setting-read x (result s c).draws) i; draws = (ap (λ (z : DeAnswer). z.draws) a ∙ setting-draws x (result s c).draws) i; state = m i }
 
 refused-is : (s : State) (c : Call de) (n : ℕ) → (result s c).answer ≡ Plain.refused n → called (flat_of s) (spelled c) ≡ record { answer = Plain.refused n; draws = 0; state = flat_of s }
 refused-is s c n e =
-    let a : sample_answer (flat_of s) (spelled c).call c.history ≡ bare_answer 0 n = answer-is s c ∙ ap (λ (z : Plain.Answer de). told (answered z (result s c).draws)) e in
-    let m : sample_state (flat_of s) (spelled c).call c.history ≡ flat_of s = state-is s c ∙ ap (λ (z : Plain.Answer de). held_after z s (result s c).state) e in
+    let a : answer_to (flat_of s) (spelled c) ≡ bare_answer 0 n = answer-is s c ∙ ap (λ (z : Plain.Answer de). told (answered z (result s c).draws)) e in
+    let m : leaves (flat_of s) (spelled c) ≡ flat_of s = state-is s c ∙ ap (λ (z : Plain.Answer de). held_after z s (result s c).state) e in
     λ i. record { answer = ap read_answer a i; draws = ap (λ (z : DeAnswer). z.draws) a i; state = m i }
 
 module _ (f : DeState) (u : DeSetup) (known : known_setup u ≡ true) (ok : is_ok (setup_verdict (setup_of u)) ≡ true) where
@@ -166,15 +186,8 @@ module _ (f : DeState) (u : DeSetup) (known : known_setup u ≡ true) (ok : is_o
 
   -- ---- what is sent
 
-  -- a known call is answered as the call that its numbers stand for, whatever the memory holds
   meant_is : (g : DeState) (q : Sent) → is_known q ≡ true → called g q ≡ called g (spelled (meant q))
-  meant_is g q k =
-      let c = q.call in
-      let c' = (spelled (meant q)).call in
-      let both = k ∙ sym (distribution-known (distribution_of c.distribution)) in
-      let back = sym (distribution-back (distribution_of c.distribution)) in
-      let a = same_answer g q.history c c' both back refl in
-      λ i. record { answer = read_answer (a i); draws = (a i).draws; state = same_state g q.history c c' both back refl i }
+  meant_is g q k = λ i. record { answer = read_answer (meant_answer g q k i); draws = (meant_answer g q k i).draws; state = meant_state g q k i }
 
   reads-are : (g : DeState) (qs : List Sent) → reads_from f u g qs ≡ returns_from de (library f u) g (meant_by qs)
   unfolding reads_from meant_by returns_from
@@ -189,13 +202,13 @@ module _ (f : DeState) (u : DeSetup) (known : known_setup u ≡ true) (ok : is_o
       go true k rest =
           ap (λ (r : Returned de DeState). viewed de (library f u) r ∷ reads_from f u r.state qs) (meant_is g q k)
           ∙ ap (λ (rs : List (Returned de (Plain.State de))). viewed de (library f u) (called g (spelled (meant q))) ∷ rs) (rest (called g (spelled (meant q))).state)
-      go false k rest = ap (λ (x : DeState). reads_from f u x qs) (unknown-state g q.history q.call k) ∙ rest g
+      go false k rest = ap (λ (x : DeState). reads_from f u x qs) (unknown-state g q.call q.history k) ∙ rest g
 
   -- THE THEOREM
   pub library-demand3 : (qs : List Sent) → LibraryDemand3 f u qs
   library-demand3 qs =
       record {
-        unknown = λ q _ k g. (unknown-answer g q.history q.call k, unknown-state g q.history q.call k);
+        unknown = λ q _ k g. (unknown-answer g q.call q.history k, unknown-state g q.call q.history k);
         reads = reads-are (new_state f u) qs;
         claim = program-demand3 de de-laws (library f u) S meets (meant_by qs);
       }

@@ -18,6 +18,9 @@ use Rattle.evolution.specs.declared.DEStrategy.{DEStrategy}
 use Rattle.evolution.specs.declared.DEStrategy.TheVariants.{Rand1, Best1, CurrentToBest1}
 use Rattle.evolution.specs.declared.Setup.{Setup}
 use Rattle.history.specs.declared.CompletedTrial.{CompletedTrial}
+use Rattle.history.specs.declared.TrialState.{TrialState}
+use Rattle.history.specs.declared.TrialState.TheVariants.{Complete, Pruned, Failed}
+use Rattle.history.specs.Entry.{state_number, state_from}
 use Rattle.state.specs.declared.State.{State}
 use Rattle.state.proofs.Flags.{and-true}
 use Rattle.state.proofs.Laid.{back}
@@ -25,12 +28,14 @@ use Rattle.de.specs.Sample.{sample_of}
 use Rattle.evolution.specs.Strategy.{strategy_number}
 use Rattle.edge.specs.declared.answers.DeCall.{DeCall}
 use Rattle.edge.specs.declared.flat.DeState.{DeState}
+use Rattle.edge.specs.declared.trial.DeCompletedTrial.{DeCompletedTrial}
+use Rattle.edge.specs.Trial.{known_history, trial_in, trial_of, flat_trial}
 use Rattle.edge.specs.Flat.{bit, strategy_of, option_of, setup_of, flat_setup, flat_float, flat_int, distribution_of, flat_distribution, dim_of, flat_dim, open_with, open_of, flat_of}
 use Rattle.edge.specs.Known.{known_setup, known_distribution, known_with, known_state}
 use Rattle.edge.specs.declared.answers.DeAnswer.{DeAnswer}
 use Rattle.edge.specs.Answers.{bare_answer, unknown, answered, settled_of, told}
 use Rattle.edge.proofs.Settled.{unknown-stores-nothing}
-use Rattle.exports.specs.Calls.{sampled_from, settled_sample, sample_answer, sample_state}
+use Rattle.exports.specs.Calls.{known_call, sampled_from, settled_sample, sample_answer, sample_state}
 
 -- ---- the parts
 
@@ -78,6 +83,14 @@ distribution-back (D.Categorical f) = refl
 dims-back : (ds : List DimensionInfo) → map dim_of (map flat_dim ds) ≡ ds
 dims-back ds = back dim_of flat_dim ds (λ d i. record { distribution = distribution-back d.distribution i })
 
+state-back : (t : TrialState) → state_from (state_number t) ≡ Some t
+state-back Complete = refl
+state-back Pruned = refl
+state-back Failed = refl
+
+pub trials-back : (h : List CompletedTrial) → map trial_of (map flat_trial h) ≡ h
+trials-back h = back trial_of flat_trial h (λ e. ap (λ (o : Option TrialState). trial_in o (flat_trial e)) (state-back e.state))
+
 bit-back : (b : Bool) → eqb (bit b) 1 ≡ b
 bit-back true = refl
 bit-back false = refl
@@ -122,6 +135,10 @@ unfolding all
 dims-known [] = refl
 dims-known (d ∷ ds) = and-true (distribution-known d.distribution) (dims-known ds)
 
+pub trials-known : (h : List CompletedTrial) → known_history (map flat_trial h) ≡ true
+trials-known [] = refl
+trials-known (e ∷ h) = and-true (ap is_some (state-back e.state)) (trials-known h)
+
 -- ---- the state
 
 pub lossless : (s : State) → open_of (flat_of s) ≡ s
@@ -155,9 +172,9 @@ abbrev pub held_after : Plain.Answer de → State → State → DeState
 held_after (Plain.given x) old new = flat_of new
 held_after (Plain.refused n) old new = flat_of old
 
-module _ (s : State) (c : DeCall) (h : List CompletedTrial) (k : known_distribution c.distribution ≡ true) where
+module _ (s : State) (c : DeCall) (h : List DeCompletedTrial) (k : known_call c h ≡ true) where
   abbrev after : State → Returned de State
-  after t = sample_of t (distribution_of c.distribution) c.trial h
+  after t = sample_of t (distribution_of c.distribution) c.trial (map trial_of h)
 
   pub one_answer : sample_answer (flat_of s) c h ≡ told (answered (after s).answer (after s).draws)
   unfolding sample_answer settled_of
@@ -173,21 +190,22 @@ module _ (s : State) (c : DeCall) (h : List CompletedTrial) (k : known_distribut
 
 -- ---- what a call's numbers stand for decides all; a number that names no case leaves the memory as it was
 
-module _ (f : DeState) (h : List CompletedTrial) where
-  -- two known spellings of one call
-  module _ (c c' : DeCall) (k : known_distribution c.distribution ≡ known_distribution c'.distribution) (d : distribution_of c.distribution ≡ distribution_of c'.distribution) (n : c.trial ≡ c'.trial) where
-    settled-alike : settled_sample f c h ≡ settled_sample f c' h
-    settled-alike = λ i. settled_of (k i) (known_state f) (sample_of (open_of f) (d i) (n i) h).answer (sample_of (open_of f) (d i) (n i) h).draws
+module _ (f : DeState) where
+  -- two spellings of one call, known alike
+  module _ (c c' : DeCall) (h h' : List DeCompletedTrial) (k : known_call c h ≡ known_call c' h') (d : distribution_of c.distribution ≡ distribution_of c'.distribution) (n : c.trial ≡ c'.trial)
+      (e : map trial_of h ≡ map trial_of h') where
+    settled-alike : settled_sample f c h ≡ settled_sample f c' h'
+    settled-alike = λ i. settled_of (k i) (known_state f) (sample_of (open_of f) (d i) (n i) (e i)).answer (sample_of (open_of f) (d i) (n i) (e i)).draws
 
-    pub same_answer : sample_answer f c h ≡ sample_answer f c' h
+    pub same_answer : sample_answer f c h ≡ sample_answer f c' h'
     unfolding sample_answer
     same_answer = ap told settled-alike
 
-    pub same_state : sample_state f c h ≡ sample_state f c' h
+    pub same_state : sample_state f c h ≡ sample_state f c' h'
     unfolding sample_state
-    same_state = λ i. cond (is_ok (settled-alike i)) (flat_of (sample_of (open_of f) (d i) (n i) h).state) f
+    same_state = λ i. cond (is_ok (settled-alike i)) (flat_of (sample_of (open_of f) (d i) (n i) (e i)).state) f
 
-  module _ (c : DeCall) (k : known_distribution c.distribution ≡ false) where
+  module _ (c : DeCall) (h : List DeCompletedTrial) (k : known_call c h ≡ false) where
     settled-unknown : settled_sample f c h ≡ Err unknown
     settled-unknown =
         ap (λ (b : Bool). settled_of b (known_state f) (sampled_from f c h).answer (sampled_from f c h).draws) k

@@ -1,4 +1,5 @@
 pub mod Edge
+pub mod Judged
 pub mod Demand
 pub mod Ceiling
 pub mod AnyState

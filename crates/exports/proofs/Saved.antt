@@ -5,7 +5,7 @@ use Prim.Native.Nat.{ℕ}
 use native.Mathlib.Omega.{arith}
 use mathlib.Core.Path.{◌≡◌, refl, sym, ap, ◌∙◌}
 use mathlib.Core.Bool.{Bool, true, false, cond, true≢false}
-use mathlib.Core.List.{List, [], ◌∷◌}
+use mathlib.Core.List.{List, [], ◌∷◌, map}
 use mir.Val.{Val}
 use denote.Laws.{Is}
 use lib.ListN.{length, take, drop}
@@ -23,11 +23,12 @@ use Rattle.edge.specs.Answers.{settled_of, told}
 use Rattle.files.specs.File.{refused_file, saved_answer, save_answer, save_file, restored_answer}
 use Rattle.edge.specs.Flat.{open_of, flat_of, distribution_of}
 use Rattle.edge.specs.Held.{held_at, held_by, held_answer}
-use Rattle.edge.specs.Known.{known_state, known_distribution, opened_state}
+use Rattle.edge.specs.Known.{known_state, opened_state}
 use Rattle.edge.specs.Look.{look_at, look_by}
+use Rattle.edge.specs.Trial.{trial_of}
 use Rattle.files.specs.declared.file.DeFile.{DeFile}
 use Rattle.edge.specs.declared.flat.DeState.{DeState}
-use Rattle.exports.specs.Calls.{settled_sample, sample_answer, sample_state, restore_answer, stored_over, restore_state}
+use Rattle.exports.specs.Calls.{known_call, settled_sample, sample_answer, sample_state, restore_answer, stored_over, restore_state}
 use Rattle.exports.specs.Program.{Sent, answer_to, leaves}
 use Rattle.exports.specs.Saved.{answers_from, Survives}
 use Rattle.exports.proofs.AnyState.{left, any-answer, any-state}
@@ -43,7 +44,7 @@ pub record Alike (f g : DeState) : Type 0 where
 
 module _ (f g : DeState) (a : Alike f g) (q : Sent) where
   settled : settled_sample f q.call q.history ≡ settled_sample g q.call q.history
-  settled = λ i. let r = sample_of (a.opened i) (distribution_of q.call.distribution) q.call.trial q.history in settled_of (known_distribution q.call.distribution) (a.known i) r.answer r.draws
+  settled = λ i. let r = sample_of (a.opened i) (distribution_of q.call.distribution) q.call.trial (map trial_of q.history) in settled_of (known_call q.call q.history) (a.known i) r.answer r.draws
 
   alike-answer : answer_to f q ≡ answer_to g q
   unfolding sample_answer
@@ -54,10 +55,10 @@ module _ (f g : DeState) (a : Alike f g) (q : Sent) where
   alike-after = go (is_ok (settled_sample f q.call q.history)) (is_ok (settled_sample g q.call q.history)) (ap is_ok settled)
     where
       next : DeState → DeState
-      next m = flat_of (sample_of (open_of m) (distribution_of q.call.distribution) q.call.trial q.history).state
+      next m = flat_of (sample_of (open_of m) (distribution_of q.call.distribution) q.call.trial (map trial_of q.history)).state
 
       same : next f ≡ next g
-      same = λ i. flat_of (sample_of (a.opened i) (distribution_of q.call.distribution) q.call.trial q.history).state
+      same = λ i. flat_of (sample_of (a.opened i) (distribution_of q.call.distribution) q.call.trial (map trial_of q.history)).state
 
       go : (x y : Bool) → x ≡ y → Alike (cond x (next f) f) (cond y (next g) g)
       go true true e = record { known = ap known_state same; opened = ap open_of same }

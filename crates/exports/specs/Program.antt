@@ -1,8 +1,7 @@
 -- What C callers send, and the library as a sampler that demand 3 is said of: the lent memory, the view of what it holds, the memory after an
 -- accepted set-up call, and the sample call.
-use Rattle.std.specs.Prelude.{◌≡◌, Bool, false, cond, List, [], ◌∷◌, eqb}
+use Rattle.std.specs.Prelude.{◌≡◌, Bool, false, cond, List, [], ◌∷◌, map, eqb}
 use Rattle.distribution.specs.declared.ParamValue.TheVariants as P
-use Rattle.history.specs.declared.CompletedTrial.{CompletedTrial}
 use Rattle.ledger.specs.Words.{All}
 use Rattle.ledger.specs.Call.{Call}
 use Rattle.ledger.specs.State as Plain
@@ -16,24 +15,25 @@ use Rattle.edge.specs.declared.flat.DeSetup.{DeSetup}
 use Rattle.edge.specs.declared.flat.DeState.{DeState}
 use Rattle.edge.specs.declared.answers.DeAnswer.{DeAnswer}
 use Rattle.edge.specs.declared.answers.DeCall.{DeCall}
+use Rattle.edge.specs.declared.trial.DeCompletedTrial.{DeCompletedTrial}
 use Rattle.edge.specs.Flat.{distribution_of, setup_of, open_of, flat_dim}
-use Rattle.edge.specs.Known.{known_distribution}
+use Rattle.edge.specs.Trial.{trial_of, flat_trial}
 use Rattle.edge.specs.Answers.{bare_answer}
-use Rattle.exports.specs.Calls.{sample_answer, sample_state, new_state}
+use Rattle.exports.specs.Calls.{known_call, sample_answer, sample_state, new_state}
 
 -- ---- a call that a C caller sends: any numbers in its fields, and a history
 
 pub record Sent : Type 0 where
   pub call : DeCall
-  pub history : List CompletedTrial
+  pub history : List DeCompletedTrial
 
--- whether the numbers that its kind reads name cases
+-- whether the numbers that its kind reads name cases, and so does the state of every entry of its history
 abbrev pub is_known : Sent → Bool
-is_known q = known_distribution q.call.distribution
+is_known q = known_call q.call q.history
 
 -- the call that its numbers stand for, whatever stands in fields that its kind has no use for
 abbrev pub meant : Sent → Call de
-meant q = call_of q.call.trial (distribution_of q.call.distribution) q.history
+meant q = call_of q.call.trial (distribution_of q.call.distribution) (map trial_of q.history)
 
 -- the calls that a list stands for; one with a number that names no case stands for none
 unfoldable pub meant_by : List Sent → List (Call de)
@@ -61,7 +61,7 @@ called f q = record { answer = read_answer (answer_to f q); draws = (answer_to f
 
 -- a call in numbers, with 0 in the fields that its kind has no use for
 abbrev pub spelled : Call de → Sent
-spelled c = record { call = record { trial = c.number; distribution = flat_dim c.distribution }; history = c.history }
+spelled c = record { call = record { trial = c.number; distribution = flat_dim c.distribution }; history = map flat_trial c.history }
 
 -- f is what the memory held before the set-up call
 abbrev pub library : DeState → DeSetup → Sampler de

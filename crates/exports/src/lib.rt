@@ -1,10 +1,13 @@
 // The sampler for callers in C and Rust, whom `exports_c` gives it under the same names. The structs that cross are those of `edge` and `files`.
-// A call or set-up with a number that names no case answers kind 4; a state with one is not sound, and that is refusal 0, or 13 where
-// it is to be saved.
+// A call, an entry of its history or a set-up with a number that names no case answers kind 4; a state with one is not sound, and that is
+// refusal 0, or 13 where it is to be saved.
 #![tactic(auto)]
 
-ghost use Rattle.std.specs.Prelude.{◌≡◌, length};
-ghost use Rattle.exports.specs.Calls.{new_answer, new_state, settled_sample, sample_answer, sample_state, restore_answer, restore_state};
+ghost use Rattle.std.specs.Prelude.{◌≡◌, length, map};
+ghost use Rattle.de.specs.Answer.{numbered};
+ghost use Rattle.de.specs.Sample.{sample_of};
+ghost use Rattle.edge.specs.Trial.{trial_of};
+ghost use Rattle.exports.specs.Calls.{new_answer, new_state, unjudged_sample, unjudged_state, sample_answer, sample_state, restore_answer, restore_state};
 ghost use Rattle.edge.specs.Look.{look_at};
 ghost use Rattle.edge.specs.Held.{held_at};
 ghost use Rattle.edge.specs.Internal.{internal_of};
@@ -13,21 +16,23 @@ ghost use Rattle.files.specs.Read.{read_answer, read_history};
 ghost use Rattle.exports.specs.Ceiling.{ceiling_at};
 ghost use Rattle.layout.specs.Marks.{marks};
 
+use de::Sampled;
 use de::ceiling::draw_ceiling;
-use de::sample::sample;
+use de::sample::sample_over;
+use distribution::Distribution;
 use edge::answers::{DeAnswer, DeCall, open_call, settle};
 use edge::build::{fresh, settle_setup};
-use edge::flat::{DeDistribution, DeSetup, DeState, open, open_strategy};
+use edge::flat::{DeDistribution, DeSetup, DeState, Unnamed, open, open_strategy};
 use edge::flatten::flatten;
 use edge::held::held_at;
 use edge::internal::{DeInternal, DeSetting, internal_of};
 use edge::look::{DeLook, look_at};
+use edge::trial::{DeCompletedTrial, all_known};
 use files::file::{DeFile, save_at};
-use files::read::DeRead;
-use history::CompletedTrial;
+use files::read::{DeRead, read_into};
 use layout::marks::{DeMarks, marked};
-use metrics::read_history;
 use saved::read;
+use state::State;
 
 // A state from a set-up. What is lent is written only where the set-up is accepted, and never read.
 #[tactic(auto, unfolding(crate::specs::Calls::new_answer, crate::specs::Calls::new_state))]
@@ -43,15 +48,33 @@ pub fn de_new(state: &mut DeState, setup: DeSetup) -> DeAnswer
     }
 }
 
-// What a sample call answers: `Ok` with a setting, and only then is the lent state written.
-#[tactic(auto, unfolding(edge::specs::Answers::question_of, edge::specs::Answers::settled_of, crate::specs::Calls::sample_state))]
+// The sampler's call over C's entries, each opened as it is read (`sample` of de, over entries in numbers).
+fn sample(
+    mut state: State,
+    distribution: Distribution,
+    trial: u64,
+    history: &[DeCompletedTrial],
+) -> Sampled
+    ensures { numbered result ≡ sample_of state distribution trial (map trial_of history.now) }
+{
+    let entries = history.iter().map(|entry| entry.open());
+    let (answer, draws) = sample_over(&mut state, distribution, trial, entries);
+    Sampled {
+        answer,
+        state,
+        draws,
+    }
+}
+
+// What a sample call answers before the entries of its history are judged: `Ok` with a setting, and only then is the lent state written.
+#[tactic(auto, unfolding(edge::specs::Answers::question_of, edge::specs::Answers::settled_of))]
 fn sampled(
     state: &mut DeState,
     call: DeCall,
-    history: &[CompletedTrial],
+    history: &[DeCompletedTrial],
 ) -> Result<DeAnswer, DeAnswer>
-    ensures answer { result ≡ settled_sample state.old call history.now }
-    ensures after { state.new ≡ sample_state state.old call history.now }
+    ensures answer { result ≡ unjudged_sample state.old call history.now }
+    ensures after { state.new ≡ unjudged_state state.old call history.now }
 {
     let (opened, distribution) = open_call(state, call)?;
     let made = sample(open(state, opened), distribution, call.trial, history);
@@ -60,13 +83,20 @@ fn sampled(
     Ok(answer)
 }
 
-// A sample call. The lent state is written only where there is a setting.
-#[tactic(auto, unfolding(crate::specs::Calls::sample_answer))]
-pub fn de_sample(state: &mut DeState, call: DeCall, history: &[CompletedTrial]) -> DeAnswer
+// A sample call. The lent state is written only where there is a setting. An unknown entry never leads to one, since it opens to a NaN that
+// the sampler refuses. So the entries are judged only where there is none, and a call with a setting reads a long history once.
+pub fn de_sample(state: &mut DeState, call: DeCall, history: &[DeCompletedTrial]) -> DeAnswer
     ensures { (result ≡ sample_answer state.old call history.now) × (state.new ≡ sample_state state.old call history.now) }
 {
     match sampled(state, call, history) {
-        Ok(answer) | Err(answer) => answer,
+        Ok(answer) => answer,
+        Err(answer) => {
+            if all_known(history) {
+                answer
+            } else {
+                DeAnswer::from(Unnamed)
+            }
+        }
     }
 }
 
@@ -123,10 +153,10 @@ pub fn de_restore(state: &mut DeState, file: &[u8]) -> DeFile
 }
 
 // The entries of a metrics export, into the lent history. A refusal leaves it as it was.
-pub fn de_read_history(text: &[u8], history: &mut [CompletedTrial]) -> DeRead
+pub fn de_read_history(text: &[u8], history: &mut [DeCompletedTrial]) -> DeRead
     ensures { (result ≡ read_answer text.now (length history.old)) × (history.new ≡ read_history text.now history.old) }
 {
-    DeRead::from(read_history(text, history))
+    DeRead::from(read_into(text, history))
 }
 
 // The layout that the library has.

@@ -17,9 +17,9 @@ use edge::answers::{DeAnswer, DeCall};
 use edge::flat::{DeDistribution, DeSetup, DeState};
 use edge::internal::{DeInternal, DeSetting};
 use edge::look::DeLook;
+use edge::trial::DeCompletedTrial;
 use files::file::DeFile;
 use files::read::DeRead;
-use history::CompletedTrial;
 use layout::marks::DeMarks;
 
 #[unsafe(no_mangle)]
@@ -33,7 +33,7 @@ pub extern "C" fn de_new(state: &mut DeState, setup: DeSetup) -> DeAnswer
 pub extern "C" fn de_sample(
     state: &mut DeState,
     call: DeCall,
-    history: &[CompletedTrial],
+    history: &[DeCompletedTrial],
 ) -> DeAnswer
     ensures { (result ≡ sample_answer state.old call history.now) × (state.new ≡ sample_state state.old call history.now) }
 {
@@ -83,7 +83,7 @@ pub extern "C" fn de_restore(state: &mut DeState, file: &[u8]) -> DeFile
 }
 
 #[unsafe(no_mangle)]
-pub extern "C" fn de_read_history(text: &[u8], history: &mut [CompletedTrial]) -> DeRead
+pub extern "C" fn de_read_history(text: &[u8], history: &mut [DeCompletedTrial]) -> DeRead
     ensures { (result ≡ read_answer text.now (length history.old)) × (history.new ≡ read_history text.now history.old) }
 {
     exports::de_read_history(text, history)

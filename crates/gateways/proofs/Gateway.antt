@@ -27,14 +27,14 @@ use Rattle.saved.proofs.Contracts.{bytes-written}
 use Rattle.saved.proofs.RoundTrip.{Savable, restored-save}
 use Rattle.edge.specs.declared.flat.DeSetup.{DeSetup}
 use Rattle.edge.specs.declared.flat.DeState.{DeState}
-use Rattle.edge.specs.Flat.{distribution_of, setup_of, flat_of}
+use Rattle.edge.specs.Flat.{setup_of, flat_of}
 use Rattle.edge.specs.Known.{known_setup}
 use Rattle.files.specs.File.{refused_file, restored_answer, restored_file, save_answer, saved_answer, save_file}
 use Rattle.exports.specs.Calls.{new_state, restore_answer, restore_state}
 use Rattle.exports.specs.Program.{Sent, answer_to, called, is_known, leaves, library, meant, meant_by, spelled}
 use Rattle.exports.proofs.AnyState.{any-answer, any-state, left}
-use Rattle.exports.proofs.Demand.{library-demand3, new_is}
-use Rattle.exports.proofs.Edge.{distribution-back, distribution-known, flat-known, held_after, lossless, one_state, same_state, unknown-state}
+use Rattle.exports.proofs.Demand.{library-demand3, new_is, meant_state}
+use Rattle.exports.proofs.Edge.{flat-known, held_after, lossless, one_state, unknown-state}
 use Rattle.restarts.specs.Gateway.{Room, TypedCall}
 use Rattle.restarts.specs.Restart.{Event, led_to, surviving}
 use Rattle.restarts.proofs.Gateway.{Reached, reached-call, reached-fresh, reached-savable, saved-length}
@@ -70,11 +70,8 @@ meant-led g (q ∷ qs) = go (is_known q) refl (λ m. meant-led m qs)
     go : (b : Bool) → is_known q ≡ b
         → ((m : DeState) → led_to DeState Sent leaves m qs ≡ led_to DeState (Call de) (λ x c. (called x (spelled c)).state) m (meant_by qs))
         → led_to DeState Sent leaves (leaves g q) qs ≡ led_to DeState (Call de) (λ x c. (called x (spelled c)).state) g (cond b (meant q ∷ meant_by qs) (meant_by qs))
-    go true k rest =
-        let d = distribution_of q.call.distribution in
-        ap (λ (m : DeState). led_to DeState Sent leaves m qs) (same_state g q.history q.call (spelled (meant q)).call (k ∙ sym (distribution-known d)) (sym (distribution-back d)) refl)
-        ∙ rest (leaves g (spelled (meant q)))
-    go false k rest = ap (λ (m : DeState). led_to DeState Sent leaves m qs) (unknown-state g q.history q.call k) ∙ rest g
+    go true k rest = ap (λ (m : DeState). led_to DeState Sent leaves m qs) (meant_state g q k) ∙ rest (leaves g (spelled (meant q)))
+    go false k rest = ap (λ (m : DeState). led_to DeState Sent leaves m qs) (unknown-state g q.call q.history k) ∙ rest g
 
 module _ (f : DeState) (u : DeSetup) (known : known_setup u ≡ true) (ok : is_ok (setup_verdict (setup_of u)) ≡ true) (typed : TypedSetup (setup_of u)) where
   abbrev S : Setup
@@ -98,7 +95,7 @@ module _ (f : DeState) (u : DeSetup) (known : known_setup u ≡ true) (ok : is_o
 
       go : (b : Bool) → is_known q ≡ b → Holds (leaves (flat_of s) q)
       go true k = by_answer (ran s (meant q)).answer (one_state s q.call q.history k)
-      go false k = record { state = s; reached = r; is = unknown-state (flat_of s) q.history q.call k }
+      go false k = record { state = s; reached = r; is = unknown-state (flat_of s) q.call q.history k }
 
   led-holds : (g : DeState) (qs : List Sent) → Holds g → All (λ (q : Sent). TypedCall (meant q)) qs → Holds (led_to DeState Sent leaves g qs)
   unfolding led_to

@@ -3,13 +3,16 @@
 use Rattle.std.specs.Prelude.{Some, Ok, Err, is_ok, Result}
 use Prim.Native.Nat.{ℕ, ◌≤◌}
 use native.Mathlib.Omega.{arith}
-use mathlib.Core.Bool.{true, cond}
+use mathlib.Core.Bool.{Bool, true, false, cond}
 use mathlib.Core.Path.{◌≡◌, refl, sym, ap, ◌∙◌, subst}
 use mathlib.Core.List.Memᴰ
 use mathlib.Core.List.{List, [], ◌∷◌}
 use borrow.Author.Tests.{le-ltb}
+use lib.Ieee.{binary64, inf}
+use lib.Ieee.Fits.{inf-fits}
 use lib.ListN.{length}
-use Rattle.history.specs.Entry.{counted_value}
+use Rattle.history.specs.Entry.{is_complete, counted_value}
+use Rattle.history.specs.declared.CompletedTrial.{CompletedTrial}
 use Rattle.ledger.specs.State.{Returned, fresh}
 use Rattle.ledger.specs.Call.{Call}
 use Rattle.ledger.specs.Claim.{Claim, start, moments_from, end_from}
@@ -47,10 +50,18 @@ use Rattle.restarts.proofs.Laid.{laid-savable, FineState}
 use Rattle.restarts.proofs.Made.{TypedDim, de-makes, Doubles}
 use Rattle.saved.specs.declared.FileRefusal.{FileRefusal}
 
+-- what an entry counts as is a double where its value is one
+counted-double : (e : CompletedTrial) → Double e.value → Double (counted_value e)
+unfolding counted_value
+counted-double e d = go (is_complete e.state)
+  where
+    go : (b : Bool) → Double (cond b e.value (inf false))
+    go true = d
+    go false = inf-fits binary64 false
+
 -- a typed call, as `Keep` has it
 fine-call : (c : Call de) → TypedCall c → FineCall de Word Doubles TypedDim Double Word c
-unfolding counted_value
-fine-call c t = record { number = t.number; distribution = t.distribution; history = t.history }
+fine-call c t = record { number = t.number; distribution = t.distribution; history = λ e m. counted-double e (t.history e m) }
 
 -- where the lent memory is as large as the largest file, a state that can be saved is
 module _ (lent : List ℕ) (room : Room lent) (s : State) (v : Savable s) where

@@ -95,7 +95,7 @@ best-few (v ∷ vs) = go (at_most v vs) (best-few vs)
     go true h = omega arith
     go false h = omega arith
 
-all-mapped : {A B : Type 0} (P : B → Type 0) (f : A → B) (xs : List A) → All (λ x. P (f x)) xs → All P (map f xs)
+pub all-mapped : {A B : Type 0} (P : B → Type 0) (f : A → B) (xs : List A) → All (λ x. P (f x)) xs → All P (map f xs)
 all-mapped P f [] h a m = absurd (Memᴰ.not-nil m)
 all-mapped P f (x ∷ xs) h a (Memᴰ.head e) = subst P (sym e) (h x (Memᴰ.head refl))
 all-mapped P f (x ∷ xs) h a (Memᴰ.tail m) = all-mapped P f xs (λ b t. h b (Memᴰ.tail t)) a m
