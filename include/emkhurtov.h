@@ -21,12 +21,14 @@
 extern "C" {
 #endif
 
-#define DE_VERSION "0.6.0"
+#define DE_VERSION "0.7.0"
 #define DE_VERSION_MAJOR 0
-#define DE_VERSION_MINOR 6
+#define DE_VERSION_MINOR 7
 #define DE_VERSION_PATCH 0
 
-/* The version of the library that is linked: DE_VERSION, where it is this header's. */
+/* The version of the library that is linked: DE_VERSION, where it is this header's. Where it is another, do not call,
+ * and compile anew: no call sees with what header its caller was compiled. In 0.7.0 an entry of the history has
+ * grown. */
 const char *de_version(void);
 
 enum {
@@ -52,13 +54,13 @@ enum {
     DE_FLOAT = 1,   /* the setting is `real` */
     DE_INT = 2,     /* the setting is `whole` */
     DE_CHOICE = 3,  /* the setting is `choice`, counted from 0 */
-    DE_UNKNOWN = 4, /* a number in the set-up, distribution or setting names no case; this comes before every refusal */
+    DE_UNKNOWN = 4, /* a number in the call, set-up, setting or history names no case; before every refusal */
     DE_MADE = 5,    /* the state is set up */
     DE_NOTHING = 6, /* there is no such slot or dimension yet */
     DE_NULL_POINTER = 16,
     DE_SHORT_BUFFER = 17, /* the memory is smaller than DeState */
     DE_MISALIGNED = 18,
-    DE_LAYOUT = 19,     /* this header and the library that is linked do not lay out the structs alike */
+    DE_LAYOUT = 19,     /* the checked functions and the proved code do not lay out the structs alike */
     DE_OVERLAPPING = 20 /* the lent file and the state's memory, or the text and the history, have a byte in common */
 };
 
@@ -91,7 +93,7 @@ enum {
     DE_LOG_SCALE = 5,       /* no log scale is offered */
     DE_STEP = 6,            /* not finite, not above 0, past DE_MAX_WHOLE (Int), or over DE_MAX_STEPS steps (Float) */
     DE_CHOICES = 7,         /* no choice, or over DE_MAX_CHOICES */
-    DE_HISTORY_NAN = 8,     /* a value of the history is NaN */
+    DE_HISTORY_NAN = 8,     /* the value of a complete entry of the history is NaN */
     DE_DIMENSIONS = 9,      /* a 17th dimension */
     DE_EXTRA_TRIALS = 10,   /* a 65th trial beyond the population in one generation */
     DE_ENTRY_NAN = 11,      /* a new candidate would have an entry that is NaN */
@@ -176,10 +178,15 @@ typedef struct DeCall {
     DeDistribution distribution;
 } DeCall;
 
-/* An entry of the history: a finished trial and what was measured (less is better). */
+/* The state of an entry: how its trial ended. One that was pruned or that failed is incomplete. */
+enum { DE_COMPLETE = 0, DE_PRUNED = 1, DE_FAILED = 2 };
+
+/* An entry of the history: a trial that has ended, and what was measured (less is better). Unless the state is
+ * DE_COMPLETE, the value counts as +infinity whatever it is, and NaN is accepted. */
 typedef struct DeCompletedTrial {
     uint64_t number;
     double value;
+    uint64_t state; /* DE_COMPLETE, DE_PRUNED or DE_FAILED: 0, as zeroed memory has it, is complete */
 } DeCompletedTrial;
 
 /* Fields that the kind has no use for are 0. */
@@ -237,19 +244,20 @@ DeAnswer de_new(DeState *state, DeSetup setup);
 /* The next setting of a trial, the dimensions in the order in which the first trial asked for them. A setting of the
  * lent distribution's kind or of the dimension's own, with the draws counted, and *state is the state after the call;
  * or DE_UNKNOWN; or DE_REFUSED by the first refusal that applies. Where there is no setting, draws is 0 and *state is
- * as it was, bit for bit. The history is read and not kept; of two entries with one number the last counts.
+ * as it was, bit for bit. The history is read and not kept; of two entries with one number the last counts, whatever
+ * its state. An entry's state that names no case is DE_UNKNOWN, also in an entry that the call has no use for.
  *
  * The rule for callers: ask for all settings of a trial in one go, with no other trial's call in between and the same
  * history lent to each call; the first trial has asked for everything before any other trial calls. Never use a trial
  * number again, not for a second attempt either (after a restart: docs/GUIDE.md). Tell every trial once it has ended, a
- * killed one as +infinity. docs/FINDINGS.md shows what goes wrong otherwise.
+ * killed one as failed. docs/FINDINGS.md shows what goes wrong otherwise.
  *
  * - After the first trial the lent distribution does not decide the answer. It is judged (DE_BOUNDS to DE_CHOICES), and
  *   the setting is decoded by the one that the first trial lent. Past the last dimension it is drawn from the lent one.
  * - A generation closes in the call that finds the results of its first N trials in the lent history. So a caller that
  *   runs one trial at a time may lend the last N results alone.
  * - A generation waits for a trial that is not told: beyond its N trials come extras, which do not compete, and the
- * 65th is refused by DE_EXTRA_TRIALS. Telling the missing trial frees it; one that was killed is told as +infinity. */
+ * 65th is refused by DE_EXTRA_TRIALS. Telling the missing trial frees it; a killed one is told as failed. */
 DeAnswer de_sample(DeState *state, DeCall call, const DeCompletedTrial *history, size_t count);
 
 /* The best slot and every slot's value; nothing before the first generation has closed; or DE_STATE_NOT_SOUND. */
@@ -272,10 +280,10 @@ DeFile de_save(const DeState *state, uint8_t *file, size_t room);
  * says what it must hold after a restart. */
 DeFile de_restore(DeState *state, const uint8_t *file, size_t length);
 
-/* Reads a metrics export into a history that de_sample can be lent: DE_READ with the count of entries, which stand in
- * the history's first places in the text's order; no place past them is touched. An empty text has none. Or DE_REFUSED:
- * by DE_MALFORMED_LINE with the number of the first malformed line, then, once every line has been read well, by
- * DE_SHORT_HISTORY where `places` is less than the count; nothing is written then.
+/* Reads a metrics export into a history that de_sample can be lent: DE_READ with the count of entries, each of which is
+ * complete; they stand in the history's first places in the text's order, and no place past them is touched. An empty
+ * text has none. Or DE_REFUSED: by DE_MALFORMED_LINE with the number of the first malformed line, then, once every line
+ * has been read well, by DE_SHORT_HISTORY where `places` is less than the count; nothing is written then.
  *
  * A line is a trial number, a comma, a value and a line feed; the last line has its line feed too. Nothing else is in
  * it: no space, no plus sign, no exponent, no carriage return, no `inf`, no `nan`; and no line is empty.
@@ -283,10 +291,12 @@ DeFile de_restore(DeState *state, const uint8_t *file, size_t length);
  * - A trial number is 1 to 20 digits and at most 2^64 - 1. It may have zeros in front.
  * - A value is perhaps a minus, then 1 to 15 digits in all, with at most one point, which stands between two of them.
  *   It becomes the double nearest to the decimal, ties to even. A minus with zero gives minus zero. No value is NaN or
- *   infinite, so a trial that was killed is told beside the export.
+ *   infinite.
  *
  * A well-formed export has exactly as many entries as line feeds: count these to know the places that it needs. Two
- * lines with one number are two entries; de_sample says which counts. */
+ * lines with one number are two entries; de_sample says which counts. A trial that was pruned or failed is told beside
+ * the export, behind what was read: there its entry is the last of its number. Lines that are read later go before
+ * it. */
 DeRead de_read_history(const uint8_t *text, size_t length, DeCompletedTrial *history, size_t places);
 
 /* The double that a setting stands for; refusals 4 to 7 of the distribution, and DE_BOUNDS for an Int setting past
@@ -344,7 +354,8 @@ typedef struct DeMarks {
 
 DeMarks de_marks(void);
 
-/* 1 where this header's structs and the library's are laid out alike. */
+/* 1 where the checked functions, by the header that they were compiled with, and the proved code lay out the structs
+ * alike. */
 int de_layout_agrees(void);
 
 /* The proved functions behind tests of their pointers. `memory` holds the state in its first sizeof(DeState) bytes and

@@ -129,7 +129,7 @@ static void generation(uint64_t trial, uint64_t n, uint64_t d, const DeCompleted
         /* The first trial's first call has closed the generation before, or has ended discovery. */
         EXPECT(slot == 0 || draws(trial + slot, dimension(0), told, count) == 0);
         rest(trial + slot, d, told, count);
-        results[slot] = (DeCompletedTrial){trial + slot, (double)((trial + slot) * 7919 % 1009)};
+        results[slot] = (DeCompletedTrial){trial + slot, (double)((trial + slot) * 7919 % 1009), DE_COMPLETE};
     }
     /* One more is an extra: a candidate of its own is drawn, an entry or a choice for each dimension. */
     EXPECT(draws(trial + n, dimension(0), told, count) == d);
@@ -190,7 +190,7 @@ static void choices_alone(void) {
     EXPECT(draws(1, scheduler, NULL, 0) == 8);
     for (uint64_t i = 0; i < 4; i++) {
         EXPECT(i == 0 || draws(1 + i, scheduler, NULL, 0) == 0);
-        results[i] = (DeCompletedTrial){1 + i, (double)i};
+        results[i] = (DeCompletedTrial){1 + i, (double)i, DE_COMPLETE};
     }
     EXPECT(draws(5, scheduler, results, 4) == 8 && state.closed == 1);
 }
@@ -213,7 +213,7 @@ static void ahead(void) {
 
 /* A refused call gives its trial no candidate: the next one draws as a first call does. */
 static void refused_first(void) {
-    DeCompletedTrial nan = {0, NAN};
+    DeCompletedTrial nan = {0, NAN, DE_COMPLETE};
     begin(DE_RAND1, DE_YES, 4);
     EXPECT(draws(0, quota, NULL, 0) == 1 && draws(0, scheduler, NULL, 0) == 1);
     refused(1, quota, &nan, 1);
@@ -233,7 +233,7 @@ static void own_call_closes(void) {
     EXPECT(draws(1, quota, NULL, 0) == 4);
     for (uint64_t i = 0; i < 4; i++) {
         EXPECT(i == 0 || draws(1 + i, quota, NULL, 0) == 0);
-        results[i] = (DeCompletedTrial){1 + i, (double)i};
+        results[i] = (DeCompletedTrial){1 + i, (double)i, DE_COMPLETE};
     }
     EXPECT(draws(3, quota, results, 4) >= 4 * (3 + 1) && state.closed == 1);
     EXPECT(has_candidate(&before, 3) && before.n_trials == 4 && state.n_trials == 1);

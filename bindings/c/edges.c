@@ -82,7 +82,7 @@ static void numbers(void) {
     refused(call, NULL, 0, DE_REFUSED, DE_BOUNDS);
     call.distribution = (DeDistribution){.kind = DE_FLOAT, .high = DE_MAX_STEPS + 1, .stepped = DE_YES, .step = 1.0};
     refused(call, NULL, 0, DE_REFUSED, DE_STEP);
-    DeCompletedTrial nan = {1, NAN};
+    DeCompletedTrial nan = {1, NAN, DE_COMPLETE};
     call.distribution = quota;
     refused(call, &nan, 1, DE_REFUSED, DE_HISTORY_NAN);
 
@@ -146,8 +146,8 @@ static void defaults(void) {
            s.seed == 0);
 }
 
-/* A campaign in three dimensions, one of each kind, one trial at a time, of which trial `killed` is told as +infinity.
- * It lends the whole history or the last N results alone, and keeps what each trial ran with. */
+/* A campaign in three dimensions, one of each kind, one trial at a time, of which trial `killed` is told as failed. It
+ * lends the whole history or the last N results alone, and keeps what each trial ran with. */
 enum { TRIALS = 4 * 9 + 2 };
 typedef struct {
     DeAnswer settings[TRIALS][3];
@@ -172,8 +172,7 @@ static void campaign(Campaign *c, int whole, uint64_t killed) {
         EXPECT(c->settings[trial][2].choice < scheduler.n_choices);
         double measured =
             away * away + (double)c->settings[trial][1].whole + 5.0 * (double)c->settings[trial][2].choice;
-        double value = trial == killed ? (double)INFINITY : measured;
-        c->history[trial] = (DeCompletedTrial){trial, value};
+        c->history[trial] = (DeCompletedTrial){trial, measured, trial == killed ? DE_FAILED : DE_COMPLETE};
     }
 }
 
@@ -222,12 +221,12 @@ static void a_waiting_generation(void) {
         DeCall call = {.trial = trial, .distribution = quota};
         EXPECT(de_checked_sample(&state, sizeof state, &call, history, count).kind == DE_FLOAT);
         if (trial != 2) {
-            history[count++] = (DeCompletedTrial){trial, (double)trial};
+            history[count++] = (DeCompletedTrial){trial, (double)trial, DE_COMPLETE};
         }
     }
     DeCall call = {.trial = 100, .distribution = quota};
     refused(call, history, count, DE_REFUSED, DE_EXTRA_TRIALS);
-    history[count++] = (DeCompletedTrial){2, INFINITY};
+    history[count++] = (DeCompletedTrial){2, NAN, DE_FAILED};
     EXPECT(de_checked_sample(&state, sizeof state, &call, history, count).kind == DE_FLOAT);
     EXPECT(de_checked_look(&state, sizeof state).closed == 1);
 }

@@ -5,7 +5,7 @@
 /* On x86-64, the only machine that the library is built for, these follow from the header; a compiler that lays out
  * otherwise stops here. */
 _Static_assert(sizeof(DeSetup) == 48 && sizeof(DeDistribution) == 80 && sizeof(DeCandidate) == 160, "layout");
-_Static_assert(sizeof(DeMember) == 168 && sizeof(DeTrialProgress) == 16 && sizeof(DeCompletedTrial) == 16, "layout");
+_Static_assert(sizeof(DeMember) == 168 && sizeof(DeTrialProgress) == 16 && sizeof(DeCompletedTrial) == 24, "layout");
 _Static_assert(offsetof(DeState, dims) == 88 && offsetof(DeState, candidates) == 1368, "layout");
 _Static_assert(offsetof(DeState, parents) == 37208 && offsetof(DeState, n_trials) == 64088, "layout");
 _Static_assert(offsetof(DeState, idle) == 67700 && sizeof(DeState) == 67704, "layout");
@@ -27,7 +27,7 @@ const char *de_refusal_text(uint64_t refusal) {
         [DE_LOG_SCALE] = "log scale is not offered",
         [DE_STEP] = "the step is not finite, not above 0, or gives too many steps",
         [DE_CHOICES] = "there are no choices, or more than 65,535",
-        [DE_HISTORY_NAN] = "a value of the history is NaN",
+        [DE_HISTORY_NAN] = "the value of a complete entry of the history is NaN",
         [DE_DIMENSIONS] = "the first trial asks for a 17th dimension",
         [DE_EXTRA_TRIALS] = "a 65th trial beyond the population asks in one generation",
         [DE_ENTRY_NAN] = "a new candidate would have an entry that is NaN",
@@ -89,6 +89,10 @@ static int marked_internal(const DeInternal *i) {
     return i->kind == 1 && i->refusal == 2 && i->value == 3.0;
 }
 
+static int marked_trial(const DeCompletedTrial *t) {
+    return t->number == 1 && t->value == 2.0 && t->state == 3;
+}
+
 static int marked_file(const DeFile *f) {
     return f->kind == 1 && f->refusal == 2 && f->length == 3;
 }
@@ -103,9 +107,9 @@ int de_layout_agrees(void) {
            m.after_distribution == 2 && m.call.trial == 1 && marked_distribution(&m.call.distribution) &&
            m.after_call == 3 && marked_answer(&m.answer) && m.after_answer == 4 && marked_look(&m.look) &&
            m.after_look == 5 && marked_setting(&m.setting) && m.after_setting == 6 && marked_internal(&m.internal) &&
-           m.after_internal == 7 && m.trial.number == 1 && m.trial.value == 2.0 && m.after_trial == 8 &&
-           marked_state(&m.state) && m.after_state == 9 && marked_file(&m.file) && m.after_file == 10 &&
-           marked_read(&m.read) && m.after_read == 11;
+           m.after_internal == 7 && marked_trial(&m.trial) && m.after_trial == 8 && marked_state(&m.state) &&
+           m.after_state == 9 && marked_file(&m.file) && m.after_file == 10 && marked_read(&m.read) &&
+           m.after_read == 11;
 }
 
 /* 0 where the memory can hold a state, else the kind of answer that says why not. */

@@ -107,7 +107,7 @@ int main(void) {
         printf("%5llu %5llu %5llu %8.1f %6lld %6lld  %-11s %9.3f%s\n", (unsigned long long)trial,
                (unsigned long long)look.closed, (unsigned long long)look.idle, s.quota, (long long)s.flush,
                (long long)s.depth, schedulers[s.scheduler], value, least ? " *" : "");
-        history[trial] = (DeCompletedTrial){trial, value};
+        history[trial] = (DeCompletedTrial){trial, value, DE_COMPLETE};
     }
     DeLook look = look_at(&state);
     double best = look.values[look.best];

@@ -80,6 +80,7 @@ static void good_lines(void) {
         add_text("\n");
         EXPECT(is_read(taken(text, length, 1), 1));
         EXPECT(history[0].number == numbers[i % COUNT(numbers)].number && bits(history[0].value) == values[i].bits);
+        EXPECT(history[0].state == DE_COMPLETE);
         row(values[i].text, before);
     }
 }
@@ -134,6 +135,7 @@ static void places(void) {
         EXPECT(is_read(taken(three, n, 3 + more), 3));
         EXPECT(history[0].number == 9 && history[0].value == 0.5 && history[1].number == 3 && history[1].value == -1.0);
         EXPECT(history[2].number == 9 && history[2].value == 2.0);
+        EXPECT(history[0].state == DE_COMPLETE && history[1].state == DE_COMPLETE && history[2].state == DE_COMPLETE);
     }
     for (size_t less = 0; less < 3; less++) {
         EXPECT(is_refused(taken(three, n, less), DE_SHORT_HISTORY, 0));
@@ -216,7 +218,7 @@ static void many(void) {
         n += (size_t)sprintf(lines + n, "%0*llu,", (int)(1 + drawn() % 20), (unsigned long long)number);
         char *value = lines + n;
         n += put_value(value);
-        expected[i] = (DeCompletedTrial){number, strtod(value, NULL)};
+        expected[i] = (DeCompletedTrial){number, strtod(value, NULL), DE_COMPLETE};
         lines[n++] = '\n';
     }
     EXPECT(is_refused(de_checked_read_history(lines, n - 1, got, LINES + 2), DE_MALFORMED_LINE, LINES));
@@ -265,7 +267,8 @@ static void pointers(void) {
     /* A text and a history that touch do not overlap. */
     EXPECT(is_read(de_checked_read_history(inside - 4, 4, two, 2), 1));
     EXPECT(is_read(de_checked_read_history(inside + 2 * sizeof *two, 4, two, 2), 1));
-    EXPECT(two[0].number == 1 && two[0].value == 2.0 && memcmp(two + 1, before.places + 2, 2 * sizeof *two) == 0);
+    EXPECT(two[0].number == 1 && two[0].value == 2.0 && two[0].state == DE_COMPLETE);
+    EXPECT(memcmp(two + 1, before.places + 2, 2 * sizeof *two) == 0);
 }
 
 /* A campaign that is lent what was read goes on, to the last bit, as one that is lent the same history directly. */
@@ -288,7 +291,7 @@ static void campaign(void) {
         EXPECT(memcmp(&direct, &from_text, sizeof direct) == 0);
         /* Eighths, so that three digits behind the point are the very value; minus zero among them. */
         double value = trial == 6 ? -0.0 : ((double)(trial * 7919 % 1009) - 400.0) / 8.0;
-        told[trial] = (DeCompletedTrial){trial, value};
+        told[trial] = (DeCompletedTrial){trial, value, DE_COMPLETE};
         length += (size_t)sprintf(text + length, "%u,%.3f\n", (unsigned)trial, value);
     }
     EXPECT(de_checked_look(&from_text, sizeof from_text).closed == 5);

@@ -60,7 +60,7 @@ static void closes(const double results[SLOTS], uint64_t idle) {
     DeCompletedTrial history[SLOTS];
     for (int i = 0; i < SLOTS; i++) {
         ask((uint64_t)i + 1, NULL, 0);
-        history[i] = (DeCompletedTrial){(uint64_t)i + 1, results[i]};
+        history[i] = (DeCompletedTrial){(uint64_t)i + 1, results[i], DE_COMPLETE};
         counted[closed][i] = results[i];
     }
     ask(1, history, SLOTS);

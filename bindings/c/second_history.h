@@ -35,6 +35,7 @@ static int second_line(const char *line, size_t length, DeCompletedTrial *entry)
     errno = 0;
     entry->number = strtoull(text, NULL, 10);
     entry->value = strtod(value, NULL);
+    entry->state = DE_COMPLETE;
     return errno == 0;
 }
 

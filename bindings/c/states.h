@@ -37,7 +37,7 @@ static uint64_t walk_number(uint64_t trial) {
     return trial % 3 == 1 ? UINT64_MAX - trial : trial;
 }
 
-/* A killed trial and minus zero among the results. */
+/* Plus infinity and minus zero among the results. */
 static double walk_value(uint64_t trial) {
     return trial % 11 == 4 ? (double)INFINITY : trial % 13 == 5 ? -0.0 : (double)(trial * 7919 % 1009);
 }
@@ -65,7 +65,7 @@ static void walk_on(Walk *w) {
         w->trial++;
         if (w->trial > w->lag && w->told < WALK_TRIALS) {
             uint64_t told = w->trial - 1 - w->lag;
-            w->history[w->told++] = (DeCompletedTrial){walk_number(told), walk_value(told)};
+            w->history[w->told++] = (DeCompletedTrial){walk_number(told), walk_value(told), DE_COMPLETE};
         }
     }
 }
