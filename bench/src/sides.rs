@@ -66,7 +66,7 @@ impl Side for Proved {
     }
 
     fn tell(&mut self, number: u64, value: f64) {
-        self.history.push(proved::CompletedTrial { number, value });
+        self.history.push(proved::CompletedTrial::new(number, value));
     }
 
     fn forget(&mut self) {

@@ -42,7 +42,8 @@ struct Campaign {
     results: File,
 }
 
-/// How many bytes a result has in the file `history`: number and value.
+/// How many bytes a result has in the file `history`: number and value, since every trial here is complete. Where trials
+/// can be killed, keep the state too.
 const RESULT: usize = 16;
 
 fn first_number(bytes: &[u8]) -> Option<u64> {

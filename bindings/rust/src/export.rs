@@ -74,7 +74,7 @@ fn line_feeds(text: &[u8]) -> usize {
 }
 
 impl CompletedTrial {
-    /// The entries of a metrics export, in the text's order. An empty text has none.
+    /// The entries of a metrics export, in the text's order, each of which is complete. An empty text has none.
     ///
     /// A line is a trial number, a comma, a value and a line feed; the last line has its line feed too. Nothing else is
     /// in it: no space, no plus sign, no exponent, no carriage return, no `inf`, no `nan`; and no line is empty.
@@ -82,9 +82,11 @@ impl CompletedTrial {
     /// - A trial number is 1 to 20 digits and at most `u64::MAX`. It may have zeros in front.
     /// - A value is perhaps a minus, then 1 to 15 digits in all, with at most one point, which stands between two of
     ///   them. It becomes the double nearest to the decimal, ties to even. A minus with zero gives minus zero. No value
-    ///   is NaN or infinite, so a trial that was killed is told beside the export.
+    ///   is NaN or infinite.
     ///
-    /// Two lines with one number are two entries; [`Sampler::sample`](crate::Sampler::sample) says which counts.
+    /// Two lines with one number are two entries; [`Sampler::sample`](crate::Sampler::sample) says which counts. A trial
+    /// that was pruned or failed is told beside the export, behind what was read: there its entry is the last of its
+    /// number. Lines that are read later go before it.
     ///
     /// That exactly such lines are read, as these numbers and values, is proved. The words that an error has for a
     /// malformed line ([`ExportFault`]) are this crate's own.
@@ -97,7 +99,7 @@ impl CompletedTrial {
     /// let mut history = CompletedTrial::read_export(b"12,0.25\n13,-7\n")?;
     /// assert_eq!(history, [CompletedTrial::new(12, 0.25), CompletedTrial::new(13, -7.0)]);
     /// // Trial 14 was killed.
-    /// history.push(CompletedTrial::new(14, f64::INFINITY));
+    /// history.push(CompletedTrial::failed(14, f64::NAN));
     /// let cut_off = CompletedTrial::read_export(b"12,0.25\n13,-").unwrap_err();
     /// assert_eq!(cut_off.to_string(), "line 2: no line feed at the end");
     /// # Ok::<(), emkhurtov::ExportError>(())
@@ -131,7 +133,7 @@ impl CompletedTrial {
     pub fn read_export_into(text: &[u8], history: &mut [CompletedTrial]) -> Result<usize, ExportError> {
         layout::check();
         // SAFETY: both pointers come from references, of which the exclusive one shares no byte with the other; a
-        // slice's pointer is not null, an empty one's either.
+        // slice's pointer is not null, an empty one's either. The only state that is written is 0, `Complete`.
         let answer = unsafe { ffi::de_read_history(text.as_ptr(), text.len(), history.as_mut_ptr(), history.len()) };
         match (answer.kind, answer.refusal) {
             (ffi::READ, _) => Ok(answer.count as usize),

@@ -162,6 +162,15 @@ pub struct DeRead {
     pub line: u64,
 }
 
+/// `CompletedTrial` in numbers: a mark is none of its states.
+#[repr(C)]
+#[derive(Clone, Copy)]
+pub struct DeCompletedTrial {
+    pub number: u64,
+    pub value: f64,
+    pub state: u64,
+}
+
 /// One of each struct, its fields numbered (layout.rs).
 #[repr(C)]
 pub struct DeMarks {
@@ -179,7 +188,7 @@ pub struct DeMarks {
     pub after_setting: u64,
     pub internal: DeInternal,
     pub after_internal: u64,
-    pub trial: CompletedTrial,
+    pub trial: DeCompletedTrial,
     pub after_trial: u64,
     pub state: DeState,
     pub after_state: u64,

@@ -4,19 +4,25 @@
 use std::mem::{offset_of, size_of};
 use std::sync::OnceLock;
 
-use crate::CompletedTrial;
 use crate::ffi::*;
+use crate::{CompletedTrial, TrialState};
 
 // On x86-64, the only machine that the library is built for.
 const _: () = {
     assert!(size_of::<DeSetup>() == 48 && size_of::<DeDistribution>() == 80 && size_of::<DeCandidate>() == 160);
-    assert!(size_of::<DeMember>() == 168 && size_of::<DeTrialProgress>() == 16 && size_of::<CompletedTrial>() == 16);
+    assert!(size_of::<DeMember>() == 168 && size_of::<DeTrialProgress>() == 16 && size_of::<CompletedTrial>() == 24);
     assert!(offset_of!(DeState, dims) == 88 && offset_of!(DeState, candidates) == 1368);
     assert!(offset_of!(DeState, parents) == 37208 && offset_of!(DeState, n_trials) == 64088);
     assert!(offset_of!(DeState, idle) == 67700 && size_of::<DeState>() == 67704);
     assert!(size_of::<DeCall>() == 88 && size_of::<DeAnswer>() == 48 && size_of::<DeLook>() == 1328);
     assert!(size_of::<DeSetting>() == 32 && size_of::<DeInternal>() == 24 && size_of::<DeFile>() == 24);
     assert!(size_of::<DeRead>() == 32);
+    // A history crosses as it is: field for field the library's entries, and the states are the header's numbers.
+    assert!(size_of::<DeCompletedTrial>() == size_of::<CompletedTrial>());
+    assert!(offset_of!(DeCompletedTrial, number) == offset_of!(CompletedTrial, number));
+    assert!(offset_of!(DeCompletedTrial, value) == offset_of!(CompletedTrial, value));
+    assert!(offset_of!(DeCompletedTrial, state) == offset_of!(CompletedTrial, state));
+    assert!(TrialState::Complete as u64 == 0 && TrialState::Pruned as u64 == 1 && TrialState::Failed as u64 == 2);
 };
 
 /// Panics where the layouts differ. The comparison is made once.
@@ -106,9 +112,9 @@ impl Marked for DeInternal {
     }
 }
 
-impl Marked for CompletedTrial {
+impl Marked for DeCompletedTrial {
     fn marked(&self) -> bool {
-        (self.number, self.value) == (1, 2.0)
+        (self.number, self.value, self.state) == (1, 2.0, 3)
     }
 }
 
@@ -182,6 +188,9 @@ mod tests {
         assert!(!marks.marked());
         let mut marks = de_marks();
         std::mem::swap(&mut marks.distribution.low, &mut marks.distribution.high);
+        assert!(!marks.marked());
+        let mut marks = de_marks();
+        std::mem::swap(&mut marks.trial.number, &mut marks.trial.state);
         assert!(!marks.marked());
     }
 }

@@ -24,6 +24,9 @@
 //!
 //! A sampler can be saved after each trial ([`Sampler::save`]) and restored after a restart ([`Sampler::restore`]);
 //! examples/restart.rs does so. A history can be read from a metrics export ([`CompletedTrial::read_export`]).
+//!
+//! A trial that was killed is told as [`CompletedTrial::failed`], one that was stopped early as
+//! [`CompletedTrial::pruned`].
 
 #![deny(missing_docs)]
 
@@ -47,4 +50,5 @@ pub use sampler::{Look, Sampled, Sampler, to_internal, version};
 pub use saved::{FileRefusal, MAX_FILE};
 pub use types::{
     CategoricalDistribution, CompletedTrial, DEStrategy, Distribution, FloatDistribution, IntDistribution, ParamValue,
+    TrialState,
 };

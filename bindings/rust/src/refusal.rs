@@ -30,7 +30,7 @@ pub enum Refusal {
     Step,
     /// 7: no choices, or more than 65,535.
     Choices,
-    /// 8: a value of the history is NaN.
+    /// 8: the value of a complete entry of the history is NaN.
     HistoryNan,
     /// 9: a 17th dimension of the first trial.
     Dimensions,
@@ -81,7 +81,7 @@ impl fmt::Display for Refusal {
             Refusal::LogScale => "log scale is not offered",
             Refusal::Step => "the step is not finite, not above 0, or gives too many steps",
             Refusal::Choices => "there are no choices, or more than 65,535",
-            Refusal::HistoryNan => "a value of the history is NaN",
+            Refusal::HistoryNan => "the value of a complete entry of the history is NaN",
             Refusal::Dimensions => "the first trial asks for a 17th dimension",
             Refusal::ExtraTrials => "a 65th trial beyond the population asks in one generation",
             Refusal::EntryNan => "a new candidate would have an entry that is NaN",

@@ -60,12 +60,12 @@ impl Sampler {
     /// The next setting of a trial: its dimensions in the order in which the first trial asked for them.
     ///
     /// A refusal leaves the sampler as it was. The history is read and not kept; of two entries with one number the
-    /// last counts.
+    /// last counts, whatever its state.
     ///
     /// The rule for callers: ask for all settings of a trial in one go, with no other trial's call in between and the
     /// same history lent to each call; the first trial has asked for everything before any other trial calls. Never use a
     /// trial number again, not for a second attempt either. Tell every trial once it has ended, a killed one as
-    /// `f64::INFINITY`. docs/FINDINGS.md shows what goes wrong otherwise.
+    /// failed. docs/FINDINGS.md shows what goes wrong otherwise.
     ///
     /// - After the first trial the lent distribution does not decide the answer. It is judged (refusals 4 to 7), and the
     ///   setting is decoded by the one that the first trial lent. Past the last dimension it is drawn from the lent one.
@@ -73,7 +73,7 @@ impl Sampler {
     ///   that runs one trial at a time may lend the last N results alone.
     /// - A generation waits for a trial that is not told: beyond its N trials come extras, which do not compete, and the
     ///   65th is refused by [`Refusal::ExtraTrials`]. Telling the missing trial frees it; one that was killed is told as
-    ///   [`f64::INFINITY`].
+    ///   [`CompletedTrial::failed`].
     ///
     /// ```
     /// use emkhurtov::{CompletedTrial, Distribution, ParamValue, Refusal, Sampler};
@@ -83,6 +83,8 @@ impl Sampler {
     /// assert!(matches!(first.setting, ParamValue::Int(1..=64)));
     /// let nan = [CompletedTrial::new(0, f64::NAN)];
     /// assert_eq!(sampler.sample(&depth, 1, &nan), Err(Refusal::HistoryNan));
+    /// let failed = [CompletedTrial::failed(0, f64::NAN)];
+    /// assert!(sampler.sample(&depth, 1, &failed).is_ok());
     /// # Ok::<(), Refusal>(())
     /// ```
     pub fn sample(

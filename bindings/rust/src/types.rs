@@ -70,20 +70,68 @@ pub enum DEStrategy {
     CurrentToBest1,
 }
 
-/// An entry of the history: a finished trial and what was measured.
+/// The state of an entry of the history: how its trial ended. One that was pruned or that failed is incomplete.
+#[repr(u64)]
+#[derive(Clone, Copy, Debug, PartialEq, Eq)]
+pub enum TrialState {
+    /// It was measured to its end.
+    Complete,
+    /// It was stopped before its end.
+    Pruned,
+    /// It broke off.
+    Failed,
+}
+
+/// An entry of the history: a trial that has ended, what was measured, and how it ended.
 #[repr(C)]
 #[derive(Clone, Copy, Debug, PartialEq)]
 pub struct CompletedTrial {
     /// The trial's number, as it asked.
     pub number: u64,
-    /// What was measured; less is better. A trial that was killed is told as [`f64::INFINITY`].
+    /// What was measured; less is better. Unless the state is [`TrialState::Complete`], it counts as [`f64::INFINITY`]
+    /// whatever it is, and NaN is accepted.
     pub value: f64,
+    /// How the trial ended.
+    pub state: TrialState,
 }
 
 impl CompletedTrial {
-    /// Trial `number` measured `value`.
+    /// Trial `number` is complete and measured `value`.
     pub const fn new(number: u64, value: f64) -> Self {
-        CompletedTrial { number, value }
+        let state = TrialState::Complete;
+        CompletedTrial { number, value, state }
+    }
+
+    /// Trial `number` was pruned, and `value` was its last figure.
+    ///
+    /// ```
+    /// use emkhurtov::{CompletedTrial, Distribution, Refusal, Sampler};
+    /// let mut sampler = Sampler::builder().population_size(4).build()?;
+    /// let depth = Distribution::int(1, 64);
+    /// for trial in 0..5 {
+    ///     sampler.sample(&depth, trial, &[])?;
+    /// }
+    /// // The first generation's trials are 1 to 4.
+    /// let history = [
+    ///     CompletedTrial::new(1, 7.0),
+    ///     CompletedTrial::pruned(2, 3.0),
+    ///     CompletedTrial::failed(3, f64::NAN),
+    ///     CompletedTrial::new(4, 5.0),
+    /// ];
+    /// sampler.sample(&depth, 5, &history)?;
+    /// let look = sampler.look()?.expect("a generation has closed");
+    /// assert_eq!(look.values, [7.0, f64::INFINITY, f64::INFINITY, 5.0]);
+    /// # Ok::<(), Refusal>(())
+    /// ```
+    pub const fn pruned(number: u64, value: f64) -> Self {
+        let state = TrialState::Pruned;
+        CompletedTrial { number, value, state }
+    }
+
+    /// Trial `number` failed, and `value` was its last figure: [`f64::NAN`] will do where it had none.
+    pub const fn failed(number: u64, value: f64) -> Self {
+        let state = TrialState::Failed;
+        CompletedTrial { number, value, state }
     }
 }
 

@@ -203,11 +203,14 @@ fn campaign(lent: fn(&[CompletedTrial]) -> &[CompletedTrial]) -> (Sampler, Vec<[
         let settings = dimensions.map(|d| s.sample(&d, trial, lent(&history)).unwrap().setting);
         let [c, x, k] = settings;
         let (c, x, k) = (c.as_choice().unwrap(), x.as_f64().unwrap(), k.as_i64().unwrap());
-        // No two settings measure alike; a killed trial is told as infinity.
+        // No two settings measure alike; a killed trial has its last figure.
         let measured = 1000.0 * x + k as f64 + 0.01 * c as f64;
-        let value = if trial % 17 == 3 { f64::INFINITY } else { measured };
         tried.push(settings);
-        history.push(CompletedTrial::new(trial, value));
+        history.push(if trial % 17 == 3 {
+            CompletedTrial::failed(trial, measured)
+        } else {
+            CompletedTrial::new(trial, measured)
+        });
     }
     (s, tried, history)
 }
