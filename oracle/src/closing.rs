@@ -7,6 +7,7 @@ use crate::counts::Counts;
 use crate::distribution::Distribution;
 use crate::draws;
 use crate::driver::Campaign;
+use crate::history::History;
 use crate::param::ParamValue;
 use crate::sampler::CompletedTrial;
 use crate::sampler::de::{DEStrategy, Probe};
@@ -49,7 +50,7 @@ impl Before {
         d: &Distribution,
         trial: u64,
         answer: &ParamValue,
-        history: &[CompletedTrial],
+        history: &History,
         counts: &mut Counts,
     ) {
         let p = c.sampler.probe();
@@ -91,9 +92,10 @@ impl Before {
             return;
         }
         p.assert_hidden_part();
-        let results = results_of(&self.trials[..p.size()], history);
+        let results = results_of(&self.trials[..p.size()], history.lent());
         self.count_selection(&p, &results, counts);
-        self.count_history(&p, &results, trial, history, counts);
+        self.count_history(&p, &results, trial, history.lent(), counts);
+        history.count_results(&self.trials[..p.size()], least(&results), counts);
         if !p.bounds().is_empty() {
             count_crossover(&p, counts);
             draws::count(&p, c, self.word, counts);

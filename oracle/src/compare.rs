@@ -157,8 +157,9 @@ pub fn in_one_run(program: &str, sections: impl Iterator<Item = Vec<u8>> + Send)
             }
             driver.counts
         });
-        let compared = compared(program, promised, said);
-        // A program that is still running after a difference is of no use, and the feeder waits for it.
+        let compared = compared(program, promised, &said);
+        // A program that is still running after a difference is of no use, and the feeder waits for it. Its pipe is still read, so
+        // that it does not complain.
         if !matches!(compared, Outcome::Same(_)) {
             let _ = child.kill();
         }
@@ -175,7 +176,7 @@ pub fn in_one_run(program: &str, sections: impl Iterator<Item = Vec<u8>> + Send)
     })
 }
 
-fn compared(program: &str, promised: Receiver<Sent>, said: Receiver<Vec<u8>>) -> Outcome {
+fn compared(program: &str, promised: Receiver<Sent>, said: &Receiver<Vec<u8>>) -> Outcome {
     let mut totals = Totals::default();
     let mut ahead: Vec<u8> = Vec::new();
     for sent in promised {

@@ -5,6 +5,7 @@ use std::collections::HashMap;
 use std::fmt;
 
 use crate::driver::{Driver, Malformed};
+use crate::history::State;
 use crate::script::{self, Command};
 
 /// A counted result.
@@ -14,7 +15,9 @@ pub struct Counted {
     pub generation: u64,
     pub slot: usize,
     pub trial: u64,
+    /// What counts: +infinity unless the state is complete.
     pub value: f64,
+    pub state: State,
     /// The number.
     pub calls: usize,
     /// What it should be: D.
@@ -24,6 +27,7 @@ pub struct Counted {
 impl fmt::Display for Counted {
     fn fmt(&self, f: &mut fmt::Formatter<'_>) -> fmt::Result {
         let words = match self.calls {
+            _ if self.state != State::Complete => "the entry is incomplete, so +infinity counts",
             0 => "the value is older than the vector",
             calls if calls < self.dims => "not measured with the vector",
             calls if calls == self.dims => "measured with the vector, as far as a log shows",
@@ -40,6 +44,7 @@ impl fmt::Display for Counted {
 /// What was told last of a trial.
 struct Told {
     value: f64,
+    state: State,
     generation: u64,
     /// The trial's calls in that generation up to then.
     calls: usize,
@@ -76,13 +81,14 @@ impl Log {
                 self.told.clear();
             }
             Some(Command::Clear) => self.told.clear(),
-            Some(Command::Tell { trial, value }) => {
+            Some(Command::Tell(entry)) => {
                 let told = Told {
-                    value,
+                    value: entry.counted(),
+                    state: entry.state,
                     generation: self.generation,
-                    calls: self.calls.get(&trial).copied().unwrap_or(0),
+                    calls: self.calls.get(&entry.trial).copied().unwrap_or(0),
                 };
-                self.told.insert(trial, told);
+                self.told.insert(entry.trial, told);
             }
             Some(Command::Restore) if answer == b"restored\n" => self.restored(),
             Some(Command::Sample { trial, .. }) if !answer.starts_with(b"refused") => self.accepted(trial, &open),
@@ -118,6 +124,7 @@ impl Log {
                     slot,
                     trial,
                     value: told.value,
+                    state: told.state,
                     calls: if now { told.calls } else { 0 },
                     dims: p.dims(),
                 });
@@ -160,6 +167,8 @@ mod tests {
         assert_eq!(marked(again), [(0, 0, 1, 2)]);
         let never = include_str!("../../campaigns/findings/trial-never-reports.txt");
         assert_eq!(marked(never), []);
+        let killed = include_str!("../../campaigns/findings/killed-trial-told-as-failed.txt");
+        assert_eq!(marked(killed), []);
     }
 
     /// Why D is looked at first: cut short halfway, the first trial makes exactly D calls and was measured with another vector.

@@ -8,11 +8,12 @@ use crate::answers;
 use crate::closing::Before;
 use crate::counts::Counts;
 use crate::distribution::Distribution;
+use crate::history::History;
 use crate::judge;
 use crate::kept::Kept;
 use crate::reader::Plain;
+use crate::sampler::Sampler;
 use crate::sampler::de::{DESampler, DEStrategy, Probe};
-use crate::sampler::{CompletedTrial, Sampler};
 use crate::script::{self, Command, SetUp};
 use crate::text;
 
@@ -86,8 +87,7 @@ impl Campaign {
 #[derive(Default)]
 pub struct Driver {
     campaign: Option<Campaign>,
-    history: Vec<CompletedTrial>,
-    nans: usize,
+    pub(crate) history: History,
     kept: Kept,
     line: u64,
     pub counts: Counts,
@@ -138,18 +138,17 @@ impl Driver {
                 Ok(())
             }
             Command::Clear => {
-                self.forget();
+                self.history.clear();
                 if let Some(c) = &mut self.campaign {
                     c.cleared = true;
                 }
                 Ok(())
             }
-            Command::Tell { trial, value } => {
-                if self.history.len() == script::LONGEST_HISTORY {
+            Command::Tell(entry) => {
+                if self.history.entries() == script::LONGEST_HISTORY {
                     return Err(Malformed);
                 }
-                self.nans += usize::from(value.is_nan());
-                self.history.push(CompletedTrial { id: trial, value });
+                self.history.tell(entry, &mut self.counts);
                 Ok(())
             }
             Command::Sample { trial, distribution } => self.sample(trial, &distribution, out),
@@ -199,13 +198,8 @@ impl Driver {
         self.campaign.as_ref().map_or(0, |c| u64::from(c.closed))
     }
 
-    fn forget(&mut self) {
-        self.history.clear();
-        self.nans = 0;
-    }
-
     fn new_campaign(&mut self, setup: &SetUp, out: &mut Vec<u8>) {
-        self.forget();
+        self.history.clear();
         self.campaign = None;
         if let Some(k) = judge::set_up(setup) {
             return self.refuse(k, out);
@@ -275,7 +269,7 @@ impl Driver {
     fn sample(&mut self, trial: u64, d: &Distribution, out: &mut Vec<u8>) -> Result<(), Malformed> {
         let c = self.campaign.as_mut().ok_or(Malformed)?;
         let p = c.sampler.probe();
-        if let Some(k) = judge::sample(&p, d, trial, &self.history, self.nans) {
+        if let Some(k) = judge::sample(&p, d, trial, &self.history) {
             drop(p);
             self.refuse(k, out);
             return Ok(());
@@ -283,7 +277,8 @@ impl Driver {
         let before = Before::of(&p, trial);
         drop(p);
         self.counts.restarted += u64::from(c.restored);
-        let answer = c.sampler.sample(d, trial, &self.history);
+        self.counts.nan_answered += u64::from(self.history.has_accepted_nan());
+        let answer = c.sampler.sample(d, trial, self.history.lent());
         before.compare(c, d, trial, &answer, &self.history, &mut self.counts);
         let draws = c.sampler.probe().draws() - before.draws;
         answers::setting(&answer, out);

@@ -4,6 +4,7 @@
 use std::collections::HashSet;
 
 use crate::distribution::Distribution;
+use crate::history::History;
 use crate::sampler::CompletedTrial;
 use crate::sampler::de::Probe;
 use crate::script::SetUp;
@@ -75,18 +76,18 @@ pub fn has_all(history: &[CompletedTrial], trials: &[u64]) -> bool {
     trials.iter().all(|trial| told.contains(trial))
 }
 
-/// Refusals 4 to 10 of a sample call. `nans` counts the NaN values in the history.
-pub fn sample(p: &Probe<'_>, d: &Distribution, trial: u64, history: &[CompletedTrial], nans: usize) -> Option<u8> {
+/// Refusals 4 to 10 of a sample call; 8 is for complete entries alone (document 02).
+pub fn sample(p: &Probe<'_>, d: &Distribution, trial: u64, history: &History) -> Option<u8> {
     if let Some(k) = distribution(d) {
         return Some(k);
     }
-    if nans > 0 {
+    if history.is_bad() {
         return Some(8);
     }
     if !p.active() {
         return (p.first() == Some(trial) && p.dims() == MOST_DIMS).then_some(9);
     }
     let full = p.trials().len() == p.size() + MOST_EXTRAS;
-    let refused = full && p.progress(trial).is_none() && !has_all(history, &p.trials()[..p.size()]);
+    let refused = full && p.progress(trial).is_none() && !has_all(history.lent(), &p.trials()[..p.size()]);
     refused.then_some(10)
 }

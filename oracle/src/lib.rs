@@ -62,6 +62,7 @@ pub mod driver;
 pub mod export;
 pub mod fixed;
 pub mod generate;
+pub mod history;
 pub mod judge;
 mod kept;
 mod reader;

@@ -1,6 +1,7 @@
 //! A line of a script in the language of the program `replay` (docs/SCRIPTS.md). Written from that page, not from the Rust.
 
 use crate::distribution::{CategoricalDistribution, Distribution, FloatDistribution, IntDistribution};
+use crate::history::{Entry, State};
 use crate::sampler::de::DEStrategy;
 
 /// A line longer than this is malformed, a comment too.
@@ -15,7 +16,7 @@ pub enum Command {
     Blank,
     New(SetUp),
     Clear,
-    Tell { trial: u64, value: f64 },
+    Tell(Entry),
     Sample { trial: u64, distribution: Distribution },
     Look,
     State,
@@ -64,10 +65,11 @@ pub fn parse(line: &[u8]) -> Option<Command> {
             seed: whole(seed)?,
         })),
         [b"clear"] => Some(Command::Clear),
-        [b"tell", trial, value] => Some(Command::Tell {
+        [b"tell", trial, value, rest @ ..] => Some(Command::Tell(Entry {
             trial: whole(trial)?,
             value: double(value)?,
-        }),
+            state: state(rest)?,
+        })),
         [b"sample", trial, rest @ ..] => Some(Command::Sample {
             trial: whole(trial)?,
             distribution: distribution(rest)?,
@@ -82,6 +84,16 @@ pub fn parse(line: &[u8]) -> Option<Command> {
             bytes: bytes(digits)?,
         }),
         [b"bytes"] => Some(Command::Bytes),
+        _ => None,
+    }
+}
+
+/// No word stands for complete.
+fn state(words: &[&[u8]]) -> Option<State> {
+    match words {
+        [] | [b"complete"] => Some(State::Complete),
+        [b"pruned"] => Some(State::Pruned),
+        [b"failed"] => Some(State::Failed),
         _ => None,
     }
 }

@@ -6,6 +6,7 @@ use crate::driver::Driver;
 use crate::generate::distributions::{choice, float, int};
 use crate::generate::malformed;
 use crate::generate::stream::Stream;
+use crate::history::State;
 use crate::judge;
 use crate::param::ParamValue;
 use crate::rng_util::f64_range;
@@ -133,6 +134,22 @@ fn numbers_and_lines_at_their_edges() {
 }
 
 #[test]
+fn the_states_of_an_entry() {
+    let state = |words: &str| match script::parse(format!("tell 7 3ff0000000000000{words}").as_bytes()) {
+        Some(Command::Tell(entry)) => Some((entry.trial, entry.value, entry.state)),
+        _ => None,
+    };
+    let told = |state| Some((7, 1.0, state));
+    assert_eq!(state(""), told(State::Complete));
+    assert_eq!(state(" complete"), told(State::Complete));
+    assert_eq!(state(" pruned"), told(State::Pruned));
+    assert_eq!(state(" failed"), told(State::Failed));
+    for words in [" ", " Pruned", " fail", " failed ", "  failed", " failed failed", " 1"] {
+        assert_eq!(state(words), None, "{words:?}");
+    }
+}
+
+#[test]
 fn a_malformed_line_ends_the_run() {
     let new = "new 3fe0000000000000 3feccccccccccccd rand1 4 1\n";
     assert_eq!(
@@ -194,6 +211,26 @@ fn closings_and_the_counters() {
             format!("look 1 3 2 {values}"),
             "look 1 4 3 4010000000000000 4008000000000000 4010000000000000 4008000000000000".into(),
             "look 2 5 0 4010000000000000 4008000000000000 4000000000000000 4008000000000000".into(),
+        ]
+    );
+}
+
+/// Four slots, one choice. An incomplete entry counts as +infinity whatever its value is, the last entry of a number counts
+/// whatever its state is, and refusal 8 is for complete entries alone.
+#[test]
+fn incomplete_entries_count_as_infinity() {
+    let script = "new 3fe0000000000000 3feccccccccccccd rand1 4 1\nsample 0 choice 3\nsample 1 choice 3\n\
+        sample 2 choice 3\nsample 3 choice 3\nsample 4 choice 3\n\
+        tell 1 c024000000000000 pruned\ntell 2 4008000000000000 failed\ntell 2 4014000000000000\n\
+        tell 3 3ff0000000000000 complete\ntell 3 bff0000000000000 failed\ntell 4 7ff8000000000000 failed\n\
+        sample 5 choice 3\nlook\ntell 6 7ff8000000000000\ntell 6 3ff0000000000000 failed\nsample 6 choice 3\n";
+    let answers = answers(script);
+    let last: Vec<&str> = answers.lines().skip(7).collect();
+    assert_eq!(
+        last,
+        [
+            "look 1 1 0 7ff0000000000000 4014000000000000 7ff0000000000000 7ff0000000000000",
+            "refused 8"
         ]
     );
 }

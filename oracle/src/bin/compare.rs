@@ -1,5 +1,6 @@
-//! `compare [--seed S] [--calls C] [--malformed K] [--script FILE] [--oracle-fault] PROGRAM`: the Rust and PROGRAM on
-//! the same scripts, byte by byte. Ends with status 1 at the first difference, of which it prints the script.
+//! `compare [--seed S] [--calls C] [--malformed K] [--script FILE] [--oracle-fault NAME] PROGRAM`: the Rust and PROGRAM on
+//! the same scripts, byte by byte. Ends with status 1 at the first difference, of which it prints the script. With a fault in
+//! the oracle, in its generator or in its reading of an entry's state, it must.
 
 use std::process::ExitCode;
 use std::time::Instant;
@@ -7,9 +8,11 @@ use std::time::Instant;
 use oracle::compare::{self, Outcome};
 use oracle::generate::malformed;
 use oracle::generate::stream::Stream;
+use oracle::history;
 use oracle::sections;
 
-const USAGE: &str = "usage: compare [--seed S] [--calls C] [--malformed K] [--script FILE] [--oracle-fault] PROGRAM";
+const USAGE: &str =
+    "usage: compare [--seed S] [--calls C] [--malformed K] [--script FILE] [--oracle-fault NAME] PROGRAM";
 
 struct Words {
     seed: u64,
@@ -34,12 +37,21 @@ fn words() -> Option<Words> {
             "--calls" => w.calls = given.next()?.parse().ok()?,
             "--malformed" => w.malformed = Some(given.next()?.parse().ok()?),
             "--script" => w.script = Some(given.next()?),
-            "--oracle-fault" => fastrand::make_faulty(),
+            "--oracle-fault" => make_faulty(&given.next()?)?,
             _ if w.program.is_empty() && !word.starts_with('-') => w.program = word,
             _ => return None,
         }
     }
     (!w.program.is_empty()).then_some(w)
+}
+
+fn make_faulty(name: &str) -> Option<()> {
+    if name == "generator" {
+        fastrand::make_faulty();
+    } else {
+        history::make_faulty(history::FAULTS.iter().find(|(word, _)| *word == name)?.1);
+    }
+    Some(())
 }
 
 fn main() -> ExitCode {

@@ -7,7 +7,9 @@ use super::distributions;
 use super::plan::{Each, Numbers, Plan};
 use super::refused;
 use super::section::Section;
+use super::values;
 use crate::distribution::Distribution;
+use crate::history::{Entry, State};
 use crate::judge;
 
 /// A trial that has not been told.
@@ -23,8 +25,8 @@ pub(super) struct Play<'a> {
     pub(super) dice: &'a mut Dice,
     running: Vec<Run>,
     next: u64,
-    /// Every result told so far, to tell it again after a clearing.
-    results: HashMap<u64, f64>,
+    /// The last entry of every trial told so far, to tell it again after a clearing.
+    results: HashMap<u64, Entry>,
     /// Results that a clearing took away and that come back one by one.
     lost: Vec<u64>,
 }
@@ -150,12 +152,22 @@ impl Play<'_> {
 
     fn tell(&mut self, number: u64) {
         if self.dice.percent(self.plan.chances.twice) {
-            let other = self.value();
-            self.s.tell(number, other);
+            let other = self.entry(number);
+            self.s.tell_entry(other);
         }
+        let last = self.entry(number);
+        self.results.insert(number, last);
+        self.s.tell_entry(last);
+    }
+
+    /// What is told of a trial.
+    fn entry(&mut self, trial: u64) -> Entry {
         let value = self.value();
-        self.results.insert(number, value);
-        self.s.tell(number, value);
+        if self.dice.percent(self.plan.chances.incomplete) {
+            return values::incomplete(trial, value, self.dice);
+        }
+        let state = State::Complete;
+        Entry { trial, value, state }
     }
 
     /// A result; with a trial held back those of the others are better than any that counts.
@@ -177,7 +189,7 @@ impl Play<'_> {
         for number in self.s.missing() {
             self.running.retain(|run| run.number != number);
             match self.results.get(&number) {
-                Some(&value) => self.s.tell(number, value),
+                Some(&entry) => self.s.tell_entry(entry),
                 None => self.tell(number),
             }
         }
@@ -200,7 +212,7 @@ impl Play<'_> {
             back.split_off(kept)
         };
         for number in back {
-            self.s.tell(number, self.results[&number]);
+            self.s.tell_entry(self.results[&number]);
         }
     }
 
@@ -215,7 +227,7 @@ impl Play<'_> {
         }
         if !self.lost.is_empty() && self.dice.once_in(3) {
             let number = self.lost.swap_remove(self.dice.below(self.lost.len()));
-            self.s.tell(number, self.results[&number]);
+            self.s.tell_entry(self.results[&number]);
         }
         if !self.s.old.is_empty() && self.dice.percent(chances.old) {
             let number = *self.dice.pick(&self.s.old);
@@ -241,14 +253,14 @@ impl Play<'_> {
         };
         let nan = self.dice.percent(30);
         if nan {
-            let pattern = *self
-                .dice
-                .pick(&[f64::NAN, -f64::NAN, f64::from_bits(0x7ff0_0000_0000_0001)]);
+            let pattern = *self.dice.pick(&values::NANS);
             let about = *self.dice.pick(&[number, u64::MAX]);
             self.s.tell(about, pattern);
-            if self.dice.percent(50) {
-                // A later entry of the same number does not mend it.
-                self.s.tell(about, 1.0);
+            // A later entry of the same number does not mend it, whatever its state.
+            match self.dice.below(4) {
+                0 | 1 => self.s.tell(about, 1.0),
+                2 => self.s.tell_entry(values::incomplete(about, 1.0, self.dice)),
+                _ => (),
             }
         }
         let d = if nan && self.dice.percent(70) {

@@ -41,6 +41,35 @@ const LINES: &[&str] = &[
     "tell 1 7ff8000000000000",
     "tell 1 fff0000000000001",
     "tell 1 -",
+    "tell 1 0000000000000000 complete",
+    "tell 1 0000000000000000 pruned",
+    "tell 1 0000000000000000 failed",
+    "tell 1 7ff8000000000000 complete",
+    "tell 1 7ff8000000000000 pruned",
+    "tell 1 fff0000000000001 failed",
+    "tell 1 0000000000000000 Complete",
+    "tell 1 0000000000000000 FAILED",
+    "tell 1 0000000000000000 complet",
+    "tell 1 0000000000000000 completed",
+    "tell 1 0000000000000000 prune",
+    "tell 1 0000000000000000 pruned ",
+    "tell 1 0000000000000000  pruned",
+    "tell 1 0000000000000000 prunedfailed",
+    "tell 1 0000000000000000 pruned failed",
+    "tell 1 0000000000000000 failed failed",
+    "tell 1 0000000000000000 complete 0",
+    "tell 1 0000000000000000 fail",
+    "tell 1 0000000000000000 failed\r",
+    "tell 1 0000000000000000 failed\0",
+    "tell 1 0000000000000000 running",
+    "tell 1 0000000000000000 0",
+    "tell 1 0000000000000000 -",
+    "tell 1 pruned",
+    "tell 1 pruned 0000000000000000",
+    "tell pruned 1 0000000000000000",
+    "tell 1 000000000000000 failed",
+    "tell 18446744073709551616 0000000000000000 failed",
+    "failed 1 0000000000000000",
     "new",
     "new 3fe0000000000000 3feccccccccccccd rand1 -",
     "new 3fe0000000000000 3feccccccccccccd rand1 - 1 1",
@@ -154,7 +183,7 @@ pub fn scripts(seed: u64, random: usize) -> Vec<Vec<u8>> {
         all.push(format!("{NEW}\n{told}{SAMPLE}\nclear\n{SAMPLE}\ntell 1 0000000000000000\nstate\n").into_bytes());
         all.push(format!("{told}{NEW}\n{SAMPLE}\ntell 1 0000000000000000\nstate\n").into_bytes());
     }
-    all.push(full_history().into_bytes());
+    all.extend(["", " failed"].map(|state| full_history(state).into_bytes()));
     all.extend(kept_files());
     all.push(largest_file().into_bytes());
     let mut dice = Dice::new(seed);
@@ -163,7 +192,7 @@ pub fn scripts(seed: u64, random: usize) -> Vec<Vec<u8>> {
 }
 
 /// A history with as many entries as there may be closes a generation: its first entry counts, and its last.
-fn full_history() -> String {
+fn full_history(state: &str) -> String {
     let mut script = format!("{NEW}\n{SAMPLE}\n");
     for trial in 2..=5 {
         script += &format!("{}\n", SAMPLE.replace("sample 1", &format!("sample {trial}")));
@@ -172,7 +201,7 @@ fn full_history() -> String {
     script += &"tell 5 c000000000000000\n".repeat(LONGEST_HISTORY - 4);
     script
         + &format!(
-            "tell 5 c008000000000000\n{}\nlook\nstate\n",
+            "tell 5 c008000000000000{state}\n{}\nlook\nstate\n",
             SAMPLE.replace("sample 1", "sample 6")
         )
 }

@@ -77,6 +77,8 @@ pub struct Chances {
     pub lent: u32,
     /// A result stands twice, another value first.
     pub twice: u32,
+    /// An entry is told as pruned or failed. Where this is 0 every entry is complete, but for what is refused.
+    pub incomplete: u32,
     /// A result is told before the trial has called.
     pub early: u32,
     /// A result of a trial that never calls.
@@ -145,6 +147,7 @@ impl Plan {
             chances: Chances {
                 lent: *dice.pick(&[0, 10, 50]),
                 twice: *dice.pick(&[0, 10, 40]),
+                incomplete: *dice.pick(&[0, 0, 10, 40]),
                 early: often(dice),
                 stranger: often(dice),
                 clear: *dice.pick(&[0, 0, 1, 4]),

@@ -1,10 +1,11 @@
 //! One section of a script: a `new` line and what follows it, with a ledger of its own that steers the generator.
 //! The ledger judges nothing: what the calls should answer is the oracle's business.
 
-use std::collections::HashMap;
+use std::collections::{HashMap, HashSet};
 
 use super::mark::Mark;
 use crate::distribution::Distribution;
+use crate::history::{Entry, State};
 use crate::judge;
 use crate::sampler::de::DEStrategy;
 use crate::script::SetUp;
@@ -29,11 +30,12 @@ pub struct Section {
     pub open: Vec<u64>,
     /// Trials of closed generations.
     pub old: Vec<u64>,
-    /// The entries of the history, and the value that counts for each trial.
+    /// The entries of the history, and the trials that it has.
     pub entries: usize,
-    pub told: HashMap<u64, f64>,
+    pub told: HashSet<u64>,
     calls_of: HashMap<u64, usize>,
     size: Option<u64>,
+    /// NaN values of complete entries.
     nans: usize,
     /// There is a state.
     pub alive: bool,
@@ -55,7 +57,7 @@ impl Section {
             open: Vec::new(),
             old: Vec::new(),
             entries: 0,
-            told: HashMap::new(),
+            told: HashSet::new(),
             calls_of: HashMap::new(),
             size: setup.size,
             nans: 0,
@@ -221,7 +223,7 @@ impl Section {
     /// Of the first N open trials those that the history lacks.
     pub fn missing(&self) -> Vec<u64> {
         let n = self.n.unwrap_or(0);
-        let lacks = |t: &&u64| !self.told.contains_key(t);
+        let lacks = |t: &&u64| !self.told.contains(t);
         self.open.iter().take(n).filter(lacks).copied().collect()
     }
 
@@ -240,14 +242,26 @@ impl Section {
     }
 
     pub fn tell(&mut self, trial: u64, value: f64) {
+        let state = State::Complete;
+        self.tell_entry(Entry { trial, value, state });
+    }
+
+    /// Every eighth complete entry is told with its word, which changes nothing.
+    pub fn tell_entry(&mut self, Entry { trial, value, state }: Entry) {
         self.text.extend_from_slice(b"tell ");
         text::whole(&mut self.text, trial);
         self.text.push(b' ');
         text::double(&mut self.text, value);
+        self.text.extend_from_slice(match state {
+            State::Complete if self.entries % 8 != 7 => b"",
+            State::Complete => b" complete",
+            State::Pruned => b" pruned",
+            State::Failed => b" failed",
+        });
         self.text.push(b'\n');
         self.entries += 1;
-        self.nans += usize::from(value.is_nan());
-        self.told.insert(trial, value);
+        self.nans += usize::from(value.is_nan() && state == State::Complete);
+        self.told.insert(trial);
     }
 
     pub fn clear(&mut self) {

@@ -1,6 +1,7 @@
 //! Results of trials.
 
 use super::dice::Dice;
+use crate::history::{Entry, State};
 
 /// How the results of a campaign are chosen.
 #[derive(Clone, Copy, Debug, PartialEq)]
@@ -63,5 +64,21 @@ impl Values {
                 }
             },
         }
+    }
+}
+
+/// Patterns of NaN.
+pub const NANS: [f64; 3] = [f64::NAN, -f64::NAN, f64::from_bits(0x7ff0_0000_0000_0001)];
+
+/// The entry of a trial that was pruned or failed: often its last figure is no number, or better than every other.
+pub fn incomplete(trial: u64, figure: f64, dice: &mut Dice) -> Entry {
+    Entry {
+        trial,
+        value: match dice.below(5) {
+            0 => *dice.pick(&NANS),
+            1 => *dice.pick(&[f64::NEG_INFINITY, f64::INFINITY, -1e300]),
+            _ => figure,
+        },
+        state: *dice.pick(&[State::Pruned, State::Failed]),
     }
 }
