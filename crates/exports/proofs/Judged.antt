@@ -6,6 +6,7 @@ use mathlib.Core.Path.{◌≡◌, refl, sym, ap, ◌∙◌}
 use mathlib.Core.Bool.{Bool, true, false, ◌&&◌, ◌||◌, cond, true≢false}
 use mathlib.Core.List.{List, [], ◌∷◌, map}
 use lib.Ieee.{is_nan}
+use Rattle.std.proofs.Math.Bool.{or-true}
 use Rattle.history.specs.Entry.{state_from, is_bad}
 use Rattle.history.specs.History.{any_nan}
 use Rattle.history.specs.declared.TrialState.{TrialState}
@@ -39,10 +40,6 @@ unfolding any_nan
 unknown-bad [] e = absurd (true≢false e)
 unknown-bad (t ∷ h) e = go (known_trial t) refl e (unknown-bad h)
   where
-    or-true : (b : Bool) → (b || true) ≡ true
-    or-true true = refl
-    or-true false = refl
-
     go : (b : Bool) → known_trial t ≡ b → (b && known_history h) ≡ false → (known_history h ≡ false → any_nan (map trial_of h) ≡ true) → (is_bad (trial_of t) || any_nan (map trial_of h)) ≡ true
     go false k w rest = ap (λ (x : Bool). x || any_nan (map trial_of h)) (opens-bad t k)
     go true k w rest = ap (λ (x : Bool). is_bad (trial_of t) || x) (rest w) ∙ or-true (is_bad (trial_of t))
@@ -79,7 +76,7 @@ module _ (f : DeState) (c : DeCall) (h : List DeCompletedTrial) where
         go true = ap (λ (b : Bool). settled_of b (known_state f) r.answer r.draws) k
         go false = refl
 
-  -- ---- the two laws
+  -- ---- the laws, of the memory after the call and of its answer
 
   pub judged-state : unjudged_state f c h ≡ sample_state f c h
   unfolding sample_state
