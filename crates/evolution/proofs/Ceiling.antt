@@ -24,6 +24,7 @@ use Rattle.evolution.specs.Select.{index_count, indices_of}
 use Rattle.evolution.specs.Mutant.{entries, mutant_at, indices_for}
 use Rattle.evolution.specs.Cross.{cross_entry, cross_at, crossed}
 use Rattle.evolution.specs.Trial.{cross_with, trial_of, trial_vectors, next_candidates}
+use Rattle.evolution.specs.declared.BoundsRule.{BoundsRule}
 use Rattle.evolution.specs.declared.Member.{Member}
 use Rattle.evolution.specs.declared.Setup.{Setup}
 use Rattle.evolution.specs.declared.DEStrategy.{DEStrategy}
@@ -41,25 +42,25 @@ indices-ceiling Best1 N i g = indices-draws-two 2 N i g (λ e. omega arith)
 indices-ceiling CurrentToBest1 N i g = indices-draws-two 2 N i g (λ e. omega arith)
 
 -- no draw at j*
-own-none : (rate : Float) (star : ℕ) (v x : Float) (b : Bounds) (j : ℕ) (g : Gen) → eqb j star ≡ true → (cross_entry rate star v x b j g).after.draws ≡ g.draws
+own-none : (rule : BoundsRule) (rate : Float) (star : ℕ) (v x : Float) (b : Bounds) (j : ℕ) (g : Gen) → eqb j star ≡ true → (cross_entry rule rate star v x b j g).after.draws ≡ g.draws
 unfolding cross_entry
-own-none rate star v x b j g e = rw e
+own-none rule rate star v x b j g e = rw e
 
-module _ (rate : Float) (star : ℕ) (v x : ℕ → Float) (s : Space) where
-  at-draws : (j : ℕ) (g : Gen) → (cross_at rate star v x s j g).after.draws ≤ g.draws + 1
-  at-draws j g = cross-draws rate star (v j) (x j) (get_or s.bounds j nan_bounds) j g
+module _ (rule : BoundsRule) (rate : Float) (star : ℕ) (v x : ℕ → Float) (s : Space) where
+  at-draws : (j : ℕ) (g : Gen) → (cross_at rule rate star v x s j g).after.draws ≤ g.draws + 1
+  at-draws j g = cross-draws rule rate star (v j) (x j) (get_or s.bounds j nan_bounds) j g
 
   -- so one draw less than entries, where j* is among them
-  cross-from : (k i : ℕ) (g : Gen) → i ≤ star → star < i + k → (many (cross_at rate star v x s) k i g).after.draws + 1 ≤ g.draws + k
+  cross-from : (k i : ℕ) (g : Gen) → i ≤ star → star < i + k → (many (cross_at rule rate star v x s) k i g).after.draws + 1 ≤ g.draws + k
   unfolding many
   cross-from zero i g l h = omega arith
   cross-from (suc k) i g l h = go (eqb i star) refl (λ p f. cross-from k (i + 1) f p (omega arith))
     where
-      go : (t : Bool) → eqb i star ≡ t → (i + 1 ≤ star → (f : Gen) → (many (cross_at rate star v x s) k (i + 1) f).after.draws + 1 ≤ f.draws + k) → (many (cross_at rate star v x s) (suc k) i g).after.draws + 1 ≤ g.draws + suc k
-      go true e ih = omega (arith, own-none rate star (v i) (x i) (get_or s.bounds i nan_bounds) i g e, many-draws (cross_at rate star v x s) 1 at-draws k (i + 1) (cross_at rate star v x s i g).after)
-      go false e ih = let n : i ≡ star → ⊥ = eqb-false i star e in omega (arith, ih (omega arith) (cross_at rate star v x s i g).after, at-draws i g)
+      go : (t : Bool) → eqb i star ≡ t → (i + 1 ≤ star → (f : Gen) → (many (cross_at rule rate star v x s) k (i + 1) f).after.draws + 1 ≤ f.draws + k) → (many (cross_at rule rate star v x s) (suc k) i g).after.draws + 1 ≤ g.draws + suc k
+      go true e ih = omega (arith, own-none rule rate star (v i) (x i) (get_or s.bounds i nan_bounds) i g e, many-draws (cross_at rule rate star v x s) 1 at-draws k (i + 1) (cross_at rule rate star v x s i g).after)
+      go false e ih = let n : i ≡ star → ⊥ = eqb-false i star e in omega (arith, ih (omega arith) (cross_at rule rate star v x s i g).after, at-draws i g)
 
-  pub crossed-count : (g : Gen) → star < s.n → (crossed rate star v x s g).after.draws + 1 ≤ g.draws + s.n
+  pub crossed-count : (g : Gen) → star < s.n → (crossed rule rate star v x s g).after.draws + 1 ≤ g.draws + s.n
   unfolding crossed
   crossed-count g h = cross-from s.n 0 g (omega arith) (omega arith)
 
@@ -69,7 +70,7 @@ module _ (S : Setup) (x : ℕ → ℕ → Float) (N best : ℕ) (ds : List Dimen
   trial-ceiling i g =
       let t = indices_for S N i g in
       let d = draw_of t.after in
-      omega (arith, indices-ceiling S.strategy N i g, draw-draws t.after, crossed-count S.crossover_rate (usize_of d.out (space_of ds).n) (mutant_at S x best i t.out) (x i) (space_of ds) d.after (mod-lt d.out some), choices-count ds (cross_with S x best (space_of ds) i t).after, draws-few ds)
+      omega (arith, indices-ceiling S.strategy N i g, draw-draws t.after, crossed-count S.bounds_rule S.crossover_rate (usize_of d.out (space_of ds).n) (mutant_at S x best i t.out) (x i) (space_of ds) d.after (mod-lt d.out some), choices-count ds (cross_with S x best (space_of ds) i t).after, draws-few ds)
 
 -- the candidates of a later generation
 pub ceiling : (S : Setup) (ps : List Member) (best : ℕ) (ds : List DimensionInfo) (g : Gen) → (next_candidates S ps best (space_of ds) g).after.draws ≤ g.draws + length ps * (tries S.strategy + length ds)

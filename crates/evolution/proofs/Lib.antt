@@ -4,3 +4,5 @@ pub mod Draws
 pub mod Trials
 pub mod Ceiling
 pub mod Paper
+pub mod Midpoint
+pub mod Same

@@ -1,4 +1,5 @@
--- Steps 3 and 4 against the paper (specs/Paper): Rand1 is its mutation. Crossover is its crossover, clamped, but where the drawn unit is CR itself.
+-- Steps 3 and 4 against the paper (specs/Paper): Rand1 is its mutation. Crossover is its crossover, the mutant's entries drawn in under midpoint, then clamped, but
+-- where the drawn unit is CR itself.
 use Prim.Native.Nat.{ℕ, ◌+◌, ◌*◌}
 use native.Mathlib.Omega.{arith}
 use mathlib.Core.Path.{◌≡◌, refl, sym, ap, subst}
@@ -10,8 +11,9 @@ use Rattle.rng_util.specs.Gen.{draw_of, made}
 use Rattle.rng_util.specs.declared.Gen.{Gen}
 use Rattle.common.specs.declared.Bounds.{Bounds}
 use Rattle.evolution.specs.Mutant.{mutant_entry}
-use Rattle.evolution.specs.Cross.{judged_entry, cross_entry}
+use Rattle.evolution.specs.Cross.{clamped, drawn_in, judged_entry, cross_entry}
 use Rattle.evolution.specs.Paper.{paper_mutant, paper_cross}
+use Rattle.evolution.specs.declared.BoundsRule.{BoundsRule}
 use Rattle.evolution.specs.declared.DEStrategy.TheVariants.{Rand1}
 
 -- Rand1 is the paper's (2), for every double
@@ -19,17 +21,18 @@ pub rand1-is-papers : (F x b x1 x2 x3 : Float) → mutant_entry Rand1 F x b x1 x
 unfolding mutant_entry paper_mutant
 rand1-is-papers F x b x1 x2 x3 = refl
 
--- an entry of a trial vector is the paper's, clamped, unless the drawn unit is CR
-pub cross-is-papers : (CR v x : Float) (b : Bounds) (star j : ℕ) (g : Gen) → eq (unit_of (draw_of g).out) CR ≡ false
-    → (cross_entry CR star v x b j g).out ≡ judged_entry b (paper_cross CR (eqb j star) (unit_of (draw_of g).out) v x)
+-- an entry of a trial vector is the paper's of the mutant's entry drawn in, clamped, unless the drawn unit is CR
+pub cross-is-papers : (rule : BoundsRule) (CR v x : Float) (b : Bounds) (star j : ℕ) (g : Gen) → eq (unit_of (draw_of g).out) CR ≡ false
+    → (cross_entry rule CR star v x b j g).out ≡ clamped b (paper_cross CR (eqb j star) (unit_of (draw_of g).out) (drawn_in rule b x v) x)
 unfolding cross_entry paper_cross le
-cross-is-papers CR v x b star j g e = go (eqb j star) (lt (unit_of (draw_of g).out) CR) (eq (unit_of (draw_of g).out) CR) e
+cross-is-papers rule CR v x b star j g e = go (eqb j star) (lt (unit_of (draw_of g).out) CR) (eq (unit_of (draw_of g).out) CR) e
   where
     go : (s below same : Bool) → same ≡ false
-        → (cond s (made (judged_entry b v) g) (made (judged_entry b (cond below v x)) (draw_of g).after)).out ≡ judged_entry b (cond (s || (below || same)) v x)
+        → (cond s (made (judged_entry rule b x v) g) (made (cond below (judged_entry rule b x v) (clamped b x)) (draw_of g).after)).out
+        ≡ clamped b (cond (s || (below || same)) (drawn_in rule b x v) x)
     go true below same q = refl
     go false true same q = refl
-    go false false same q = ap (λ (z : Bool). judged_entry b (cond z v x)) (sym q)
+    go false false same q = ap (λ (z : Bool). clamped b (cond z (drawn_in rule b x v) x)) (sym q)
 
 -- ---- the exception
 
@@ -66,7 +69,7 @@ equal-not-below (fin s m f) (inf t) e = absurd (true≢false (sym e))
 equal-not-below (fin s m f) (fin t n d) e = level-not-below s (m * up f * down d) t (n * up d * down f) e
 
 -- where the drawn unit is CR, step 4 takes the parent's entry, and the paper the mutant's
-pub cross-at-rate : (CR v x : Float) (b : Bounds) (star j : ℕ) (g : Gen) → eqb j star ≡ false → eq (unit_of (draw_of g).out) CR ≡ true
-    → ((cross_entry CR star v x b j g).out ≡ judged_entry b x) × (paper_cross CR (eqb j star) (unit_of (draw_of g).out) v x ≡ v)
+pub cross-at-rate : (rule : BoundsRule) (CR v x : Float) (b : Bounds) (star j : ℕ) (g : Gen) → eqb j star ≡ false → eq (unit_of (draw_of g).out) CR ≡ true
+    → ((cross_entry rule CR star v x b j g).out ≡ clamped b x) × (paper_cross CR (eqb j star) (unit_of (draw_of g).out) v x ≡ v)
 unfolding cross_entry paper_cross le
-cross-at-rate CR v x b star j g f e = rw (f, equal-not-below (unit_of (draw_of g).out) CR e, e) (refl, refl)
+cross-at-rate rule CR v x b star j g f e = rw (f, equal-not-below (unit_of (draw_of g).out) CR e, e) (refl, refl)

@@ -4,3 +4,4 @@ pub mod Cross
 pub mod Trial
 pub mod Paper
 pub mod Strategy
+pub mod BoundsRule

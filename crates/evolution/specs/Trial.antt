@@ -17,7 +17,7 @@ use Rattle.evolution.specs.declared.Setup.{Setup}
 abbrev pub cross_with : Setup → (ℕ → ℕ → Float) → ℕ → Space → ℕ → Made Indices → Made (List Float)
 cross_with S x best s i t =
     let d = draw_of t.after in
-    crossed S.crossover_rate (usize_of d.out s.n) (mutant_at S x best i t.out) (x i) s d.after
+    crossed S.bounds_rule S.crossover_rate (usize_of d.out s.n) (mutant_at S x best i t.out) (x i) s d.after
 
 -- the trial vector of slot i, of N slots: mutation, crossover, "Then choices as in 2"
 unfoldable pub trial_of : Setup → (ℕ → ℕ → Float) → ℕ → ℕ → Space → ℕ → Gen → Made Candidate

@@ -10,7 +10,7 @@ ghost use Rattle.rng_util.specs.Many.{padded};
 ghost use Rattle.common.specs.Bounds.{zero_f};
 ghost use Rattle.candidates.specs.Candidate.{blank_candidate};
 ghost use Rattle.evolution.specs.Mutant.{in_row, entries};
-ghost use Rattle.evolution.specs.Cross.{judged_entry, cross_entry, crossed};
+ghost use Rattle.evolution.specs.Cross.{clamped, halfway, drawn_in, judged_entry, cross_entry, crossed};
 ghost use Rattle.evolution.specs.Trial.{trial_of, trial_vectors, next_candidates};
 
 use crate::mutant::create_mutant_with_rng;
@@ -60,6 +60,39 @@ impl DEStrategy {
     }
 }
 
+// What becomes of a mutant's entry beyond a bound: it is clamped, as in the Rust, or first drawn in, halfway from the parent's entry
+// to that bound (document 02, W7).
+#[derive(Clone, Copy)]
+pub enum BoundsRule {
+    Clamp,
+    Midpoint,
+}
+
+impl BoundsRule {
+    ghost use Rattle.evolution.specs.BoundsRule.{rule_number, rule_from};
+
+    // The number that C knows a rule by.
+    pub fn number(self) -> u64
+        ensures { result ≡ rule_number self }
+    {
+        match self {
+            BoundsRule::Clamp => 0,
+            BoundsRule::Midpoint => 1,
+        }
+    }
+
+    // The rule that a number stands for; any other number stands for none.
+    pub fn from_number(number: u64) -> Option<BoundsRule>
+        ensures { result ≡ rule_from number }
+    {
+        match number {
+            0 => Some(BoundsRule::Clamp),
+            1 => Some(BoundsRule::Midpoint),
+            _ => None,
+        }
+    }
+}
+
 // The seed is the generator's first word.
 #[derive(Clone, Copy)]
 pub struct Setup {
@@ -68,6 +101,7 @@ pub struct Setup {
     pub strategy: DEStrategy,
     pub population_size: Option<u64>,
     pub seed: u64,
+    pub bounds_rule: BoundsRule,
 }
 
 // What a slot holds: a parent, and the result that it was counted with.
@@ -89,15 +123,48 @@ pub struct Indices {
 
 // An entry of a trial vector is clamped to its dimension's bounds.
 pub fn clamp_to_bounds(value: f64, bounds: Bounds) -> f64
-    ensures { result ≡ judged_entry bounds value }
+    ensures { result ≡ clamped bounds value }
 {
     rounding::clamp(value, bounds.low, bounds.high)
 }
 
-// Entry j of a trial vector: the mutant's at j*, without a draw, or where a unit is below CR; else the parent's.
+// Half the sum of the parent's entry and a bound: the sum is rounded, then its half.
+fn halfway(x: f64, bound: f64) -> f64
+    ensures { result ≡ halfway x bound }
+{
+    (x + bound) / 2.0
+}
+
+// The mutant's entry, drawn in where it is beyond a bound and the rule is midpoint; x is the parent's.
+#[tactic(auto, unfolding(crate::specs::Cross::drawn_in))]
+fn draw_in(rule: BoundsRule, value: f64, x: f64, bounds: Bounds) -> f64
+    ensures { result ≡ drawn_in rule bounds x value }
+{
+    match rule {
+        BoundsRule::Clamp => value,
+        BoundsRule::Midpoint => {
+            if value < bounds.low {
+                halfway(x, bounds.low)
+            } else if value > bounds.high {
+                halfway(x, bounds.high)
+            } else {
+                value
+            }
+        }
+    }
+}
+
+// The mutant's entry as a trial vector takes it: drawn in, then clamped.
+fn judge_entry(rule: BoundsRule, value: f64, x: f64, bounds: Bounds) -> f64
+    ensures { result ≡ judged_entry rule bounds x value }
+{
+    clamp_to_bounds(draw_in(rule, value, x, bounds), bounds)
+}
+
+// Entry j of a trial vector: the mutant's at j*, without a draw, or where a unit is below CR; else the parent's, which is clamped alone.
 #[tactic(auto, unfolding(crate::specs::Cross::cross_entry))]
 fn cross_entry(
-    rate: f64,
+    setup: &Setup,
     j: usize,
     j_rand: usize,
     mutant: f64,
@@ -106,19 +173,18 @@ fn cross_entry(
     rng: &mut Gen,
 ) -> f64
     requires { rng.old.draws < 2 ^ 63 }
-    ensures { made result rng.new ≡ cross_entry rate j_rand mutant x bounds j rng.old }
+    ensures { made result rng.new ≡ cross_entry setup.now.bounds_rule setup.now.crossover_rate j_rand mutant x bounds j rng.old }
 {
-    let entry = if j == j_rand || rng_util::unit(rng.draw()) < rate {
-        mutant
+    if j == j_rand || rng_util::unit(rng.draw()) < setup.crossover_rate {
+        judge_entry(setup.bounds_rule, mutant, x, bounds)
     } else {
-        x
-    };
-    clamp_to_bounds(entry, bounds)
+        clamp_to_bounds(x, bounds)
+    }
 }
 
 // Binomial crossover of a parent with its mutant.
 fn crossover(
-    rate: f64,
+    setup: &Setup,
     j_rand: usize,
     mutant: &[f64; 16],
     parent: &[f64; 16],
@@ -126,10 +192,11 @@ fn crossover(
     rng: &mut Gen,
 ) -> [f64; 16]
     requires { (space.now.n ≤ 16) × (rng.old.draws < 2 ^ 62) }
-    ensures { made result rng.new ≡ padded 16 zero_f (crossed rate j_rand (in_row mutant.now) (in_row parent.now) space.now rng.old) }
+    ensures { made result rng.new
+        ≡ padded 16 zero_f (crossed setup.now.bounds_rule setup.now.crossover_rate j_rand (in_row mutant.now) (in_row parent.now) space.now rng.old) }
 {
     rng_util::many(0.0, space.n, rng, |j, rng| {
-        cross_entry(rate, j, j_rand, mutant[j], parent[j], space.bounds[j], rng)
+        cross_entry(setup, j, j_rand, mutant[j], parent[j], space.bounds[j], rng)
     })
 }
 
@@ -151,7 +218,7 @@ fn trial_vector(
     let mutant = create_mutant_with_rng(setup, parents, best, i, space.n, rng);
     let j_rand = rng_util::usize_below(rng.draw(), space.n as u64) as usize;
     let parent = &parents[i].candidate.x;
-    let x = crossover(setup.crossover_rate, j_rand, &mutant, parent, space, rng);
+    let x = crossover(setup, j_rand, &mutant, parent, space, rng);
     let choices = candidates::random_choices(space, rng);
     Candidate { x, choices }
 }

@@ -15,7 +15,7 @@ crossover-x-requires c = (search rules, omega (arith, drew-mutant _ _ _ _ _ _ _ 
 
 pub random_choices-choices-requires : goal.random_choices-choices-requires
 random_choices-choices-requires c =
-    (search rules, omega (arith, drew-mutant _ _ _ _ _ _ _ _ _ c.create_mutant_with_rng-mutant.ensures, drew-one _ _ _ c.draw.ensures, drew-crossed _ _ _ _ _ _ _ _ c.crossover-x.ensures))
+    (search rules, omega (arith, drew-mutant _ _ _ _ _ _ _ _ _ c.create_mutant_with_rng-mutant.ensures, drew-one _ _ _ c.draw.ensures, drew-crossed _ _ _ _ _ _ _ _ _ c.crossover-x.ensures))
 
 pub returns : goal.returns
 returns c =
