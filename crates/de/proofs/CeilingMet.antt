@@ -23,6 +23,7 @@ use Rattle.candidates.specs.Nan.{any_nan, any_bad}
 use Rattle.candidates.specs.Random.{random_entry, random_entries, random_choice, random_choices, random_candidate, random_candidates}
 use Rattle.candidates.specs.Space.{continuous_dims, space_of}
 use Rattle.history.specs.declared.CompletedTrial.{CompletedTrial}
+use Rattle.evolution.specs.declared.BoundsRule.TheVariants.{Clamp}
 use Rattle.evolution.specs.declared.DEStrategy.TheVariants.{Rand1}
 use Rattle.evolution.specs.declared.Setup.{Setup}
 use Rattle.ledger.specs.Words.{all, has, differing}
@@ -54,7 +55,7 @@ pub record Draws (s : State) (d : Distribution) (n : ℕ) (h : List CompletedTri
 -- ---- the set-up, the dimensions and the states
 
 abbrev pub setup : Setup
-setup = record { mutation_factor = dec 5 1; crossover_rate = dec 5 1; strategy = Rand1; population_size = Some 4; seed = 0 }
+setup = record { mutation_factor = dec 5 1; crossover_rate = dec 5 1; strategy = Rand1; population_size = Some 4; seed = 0; bounds_rule = Clamp }
 
 abbrev pub unit : Distribution
 unit = FloatD (record { low = dec 0 0; high = dec 1 0; log_scale = false; step = None })

@@ -1,10 +1,10 @@
 // The set-up: the Rust's builder, and the state that an accepted set-up returns.
 ghost use Rattle.std.specs.Prelude.{◌≡◌};
-ghost use Rattle.de.specs.Build.{defaults, with_size, with_factor, with_rate, with_strategy, with_seed, built_of, built_refusal, setup_refusal, fresh_state};
+ghost use Rattle.de.specs.Build.{defaults, with_size, with_factor, with_rate, with_strategy, with_seed, with_rule, built_of, built_refusal, setup_refusal, fresh_state};
 
 use candidates::Candidate;
 use distribution::{DimensionInfo, Refusal};
-use evolution::{DEStrategy, Setup};
+use evolution::{BoundsRule, DEStrategy, Setup};
 use selection::blank_member;
 use state::{State, TrialProgress};
 
@@ -14,7 +14,7 @@ pub struct DESamplerBuilder {
 }
 
 impl DESamplerBuilder {
-    // F = 0.8, CR = 0.9, Rand1, no size; the seed is 0, since nothing is seeded at random.
+    // F = 0.8, CR = 0.9, Rand1, no size, clamp; the seed is 0, since nothing is seeded at random.
     pub fn new() -> Self
         ensures { result ≡ defaults }
     {
@@ -25,6 +25,7 @@ impl DESamplerBuilder {
                 strategy: DEStrategy::Rand1,
                 population_size: None,
                 seed: 0,
+                bounds_rule: BoundsRule::Clamp,
             },
         }
     }
@@ -61,6 +62,14 @@ impl DESamplerBuilder {
         ensures { result ≡ with_seed self seed }
     {
         self.setup.seed = seed;
+        self
+    }
+
+    // Clamp, as in the Rust, or midpoint (document 02, W7).
+    pub fn bounds_rule(mut self, rule: BoundsRule) -> Self
+        ensures { result ≡ with_rule self rule }
+    {
+        self.setup.bounds_rule = rule;
         self
     }
 

@@ -25,8 +25,10 @@ use Rattle.candidates.specs.Nan.{any_nan, any_bad}
 use Rattle.candidates.specs.declared.Candidate.{Candidate}
 use Rattle.evolution.specs.Select.{is_free, select_from, indices_of}
 use Rattle.evolution.specs.Mutant.{mutant_entry}
-use Rattle.evolution.specs.Cross.{cross_entry, crossed}
+use Rattle.evolution.specs.Cross.{halfway, drawn_in, cross_entry, crossed}
 use Rattle.evolution.specs.Trial.{trial_of, trial_vectors, next_candidates}
+use Rattle.evolution.specs.declared.BoundsRule.{BoundsRule}
+use Rattle.evolution.specs.declared.BoundsRule.TheVariants.{Clamp, Midpoint}
 use Rattle.evolution.specs.declared.DEStrategy.{DEStrategy}
 use Rattle.evolution.specs.declared.DEStrategy.TheVariants.{Rand1, Best1, CurrentToBest1}
 use Rattle.evolution.specs.declared.Setup.{Setup}
@@ -89,8 +91,11 @@ fitting = refl
 
 -- ---- N counts continuous dimensions, two of the four: 10 × 2, and the user's raised to 4
 
+abbrev by_rule : BoundsRule → Option ℕ → DEStrategy → Float → Setup
+by_rule rule size strategy F = record { mutation_factor = F; crossover_rate = dec 5 1; strategy = strategy; population_size = size; seed = 0; bounds_rule = rule }
+
 abbrev setup : Option ℕ → DEStrategy → Float → Setup
-setup size strategy F = record { mutation_factor = F; crossover_rate = dec 5 1; strategy = strategy; population_size = size; seed = 0 }
+setup = by_rule Clamp
 
 pub sizes : map (λ (size : Option ℕ). population_size_of (setup size Rand1 (dec 5 1)) mixed) (None ∷ Some 3 ∷ Some 5 ∷ []) ≡ 20 ∷ 4 ∷ 5 ∷ []
 unfolding continuous_dims
@@ -151,10 +156,22 @@ pub generations :
     ∷ packed (dec 875 3 ∷ dec 10 0 ∷ []) (0 ∷ 0 ∷ 0 ∷ 0 ∷ [])
     ∷ []) 17026080507310378600 29
     ∷ []
-unfolding nexts_of next_candidates trial_vectors trial_of crossed cross_entry mutant_entry indices_of select_from is_free random_choices random_choice many space_of continuous_dims draw_of drawn unit_of clamp_of any_bad any_nan is_nan lt of_int of_bits of_fields odd dec
+unfolding nexts_of next_candidates trial_vectors trial_of crossed cross_entry drawn_in mutant_entry indices_of select_from is_free random_choices random_choice many space_of continuous_dims draw_of drawn unit_of clamp_of any_bad any_nan is_nan lt of_int of_bits of_fields odd dec
 generations = refl
+
+-- Rand1 under midpoint (document 02, W7): four entries beyond a bound are half the sum of the parent's and that bound, one that is exactly 11 stays, and the draws are the same
+pub midpoints :
+    nexts_of (by_rule Midpoint None Rand1 (dec 5 1)) mixed parents 2 start
+    ≡ later
+    (packed (dec 5 1 ∷ dec 65 1 ∷ []) (2 ∷ 0 ∷ 0 ∷ 0 ∷ [])
+    ∷ packed (dec 75 2 ∷ dec 4 0 ∷ []) (0 ∷ 0 ∷ 2 ∷ 0 ∷ [])
+    ∷ packed (dec 75 2 ∷ dec 11 0 ∷ []) (2 ∷ 0 ∷ 0 ∷ 0 ∷ [])
+    ∷ packed (dec 1 0 ∷ dec 55 1 ∷ []) (2 ∷ 0 ∷ 2 ∷ 0 ∷ [])
+    ∷ []) 2934021998537672338 31
+unfolding nexts_of next_candidates trial_vectors trial_of crossed cross_entry drawn_in halfway mutant_entry indices_of select_from is_free random_choices random_choice many space_of continuous_dims draw_of drawn unit_of clamp_of any_bad any_nan is_nan lt of_int of_bits of_fields odd dec
+midpoints = refl
 
 -- and 11 for a mutation factor that is NaN, which no accepted set-up has (refusal 1)
 pub later-refused : nexts_of (setup None Rand1 nan) mixed parents 2 start ≡ None
-unfolding nexts_of next_candidates trial_vectors trial_of crossed cross_entry mutant_entry indices_of select_from is_free random_choices random_choice many space_of continuous_dims draw_of drawn unit_of clamp_of any_bad any_nan is_nan lt of_int of_bits of_fields odd dec
+unfolding nexts_of next_candidates trial_vectors trial_of crossed cross_entry drawn_in mutant_entry indices_of select_from is_free random_choices random_choice many space_of continuous_dims draw_of drawn unit_of clamp_of any_bad any_nan is_nan lt of_int of_bits of_fields odd dec
 later-refused = refl

@@ -36,8 +36,9 @@ use Rattle.candidates.specs.Nan.{any_nan, any_bad}
 use Rattle.candidates.specs.declared.Candidate.{Candidate}
 use Rattle.candidates.proofs.Lists.{next-drop}
 use Rattle.evolution.specs.Mutant.{entries, mutant_at, indices_for}
-use Rattle.evolution.specs.Cross.{judged_entry, cross_entry, cross_at, crossed}
+use Rattle.evolution.specs.Cross.{clamped, drawn_in, judged_entry, cross_entry, cross_at, crossed}
 use Rattle.evolution.specs.Trial.{trial_of, trial_vectors, next_candidates}
+use Rattle.evolution.specs.declared.BoundsRule.{BoundsRule}
 use Rattle.evolution.specs.declared.Member.{Member}
 use Rattle.evolution.specs.declared.Setup.{Setup}
 use Rattle.ledger.specs.Words.{All, all}
@@ -134,13 +135,17 @@ clamp-kept (fin s m e) l h p q = go (lt (fin s m e) l) (lt h (fin s m e))
     go false true n = q
     go false false n = tt
 
-cross-kept : (rate : Float) (star : ℕ) (v x : Float) (b : Bounds) (j : ℕ) (g : Gen) → Small b → Kept (cross_entry rate star v x b j g).out
+cross-kept : (rule : BoundsRule) (rate : Float) (star : ℕ) (v x : Float) (b : Bounds) (j : ℕ) (g : Gen) → Small b → Kept (cross_entry rule rate star v x b j g).out
 unfolding cross_entry
-cross-kept rate star v x b j g s = go (eqb j star) (cond (lt (unit_of (draw_of g).out) rate) v x)
+cross-kept rule rate star v x b j g s = go (eqb j star) (lt (unit_of (draw_of g).out) rate)
   where
-    go : (t : Bool) (y : Float) → Kept (cond t (made (judged_entry b v) g) (made (judged_entry b y) (draw_of g).after)).out
-    go true y = clamp-kept v b.low b.high (within-finite 997 b.low s.0) (within-finite 997 b.high s.1)
-    go false y = clamp-kept y b.low b.high (within-finite 997 b.low s.0) (within-finite 997 b.high s.1)
+    kept : (y : Float) → Kept (clamped b y)
+    kept y = clamp-kept y b.low b.high (within-finite 997 b.low s.0) (within-finite 997 b.high s.1)
+
+    go : (t u : Bool) → Kept (cond t (made (judged_entry rule b x v) g) (made (cond u (judged_entry rule b x v) (clamped b x)) (draw_of g).after)).out
+    go true u = kept (drawn_in rule b x v)
+    go false true = kept (drawn_in rule b x v)
+    go false false = kept x
 
 zeros : (m : ℕ) → T (all is_zero (replicate m zero_f))
 unfolding all of_bits of_fields odd
@@ -219,9 +224,9 @@ module _ (ds : List DimensionInfo) (h : All Passes ds) where
       let n = continuous_count ds in
       let t = indices_for S N i g in
       let d = draw_of t.after in
-      let make = cross_at S.crossover_rate (usize_of d.out n) (mutant_at S x best i t.out) (x i) (space_of ds) in
+      let make = cross_at S.bounds_rule S.crossover_rate (usize_of d.out n) (mutant_at S x best i t.out) (x i) (space_of ds) in
       candidate-fits ds h (many make n 0 d.after) (many-length make n 0 d.after)
-      (all_made Kept make n (λ j l e. cross-kept _ _ _ _ (get_or (space_of ds).bounds j nan_bounds) j e (bounds-at ds h j l)) n 0 d.after (omega arith))
+      (all_made Kept make n (λ j l e. cross-kept _ _ _ _ _ (get_or (space_of ds).bounds j nan_bounds) j e (bounds-at ds h j l)) n 0 d.after (omega arith))
 
   -- ---- one for each slot
 

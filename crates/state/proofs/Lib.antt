@@ -7,6 +7,7 @@ pub mod Loops
 pub mod Measured
 pub mod Numbers
 pub mod Parts
+pub mod Ruled
 pub mod Setups
 pub mod Sizes
 pub mod Tidy

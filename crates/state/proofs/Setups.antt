@@ -7,13 +7,14 @@ use mathlib.Core.Bool.{true, false}
 use lib.Ieee.{Float, nan, inf, neg, lt, is_nan}
 use Rattle.distribution.specs.Validate.{refusal_of}
 use Rattle.distribution.proofs.Examples.{dec, next}
+use Rattle.evolution.specs.declared.BoundsRule.TheVariants.{Clamp}
 use Rattle.evolution.specs.declared.DEStrategy.TheVariants.{Best1}
 use Rattle.state.specs.Setup.{setup_verdict}
 
 -- the refusal of a set-up of F, CR and a size, by its number
 abbrev judged : Float → Float → Option ℕ → Option ℕ
 judged F CR k =
-    refusal_of (setup_verdict (record { mutation_factor = F; crossover_rate = CR; strategy = Best1; population_size = k; seed = 0 }))
+    refusal_of (setup_verdict (record { mutation_factor = F; crossover_rate = CR; strategy = Best1; population_size = k; seed = 0; bounds_rule = Clamp }))
 
 -- the table's column "Small input", and a set-up that passes
 pub small-inputs :
