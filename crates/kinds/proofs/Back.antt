@@ -24,6 +24,8 @@ use Rattle.common.proofs.PlaceLaws.{at-place}
 use Rattle.ledger.specs.Words.{All, all}
 use Rattle.candidates.specs.Space.{continuous_dims, continuous_count}
 use Rattle.candidates.specs.declared.Candidate.{Candidate}
+use Rattle.evolution.specs.declared.BoundsRule.{BoundsRule}
+use Rattle.evolution.specs.declared.BoundsRule.TheVariants.{Clamp, Midpoint}
 use Rattle.evolution.specs.declared.DEStrategy.TheVariants.{Rand1, Best1, CurrentToBest1}
 use Rattle.evolution.specs.Strategy.{strategy_number}
 use Rattle.evolution.specs.declared.DEStrategy.{DEStrategy}
@@ -35,7 +37,7 @@ use Rattle.std.proofs.lemmas.Bool.{and_parts}
 use Rattle.state.proofs.Floats.{zero-true}
 use Rattle.state.proofs.Tidy.{padded}
 use Rattle.kinds.specs.Opened.{row}
-use Rattle.kinds.specs.Rows.{double_word, word_double, whole_word, word_whole, word_strategy, flag, word_option, setup_words, setup_in, float_words, int_words, dim_words, dim_in, trial_words, trial_in, vector_words, entries_in, choices_in, candidate_words, candidate_in, member_words, member_in}
+use Rattle.kinds.specs.Rows.{double_word, word_double, whole_word, word_whole, word_strategy, flag, word_option, rule_has_place, has_place, setup_words, setup_in, float_words, int_words, dim_words, dim_in, trial_words, trial_in, vector_words, entries_in, choices_in, candidate_words, candidate_in, member_words, member_in}
 use Rattle.std.specs.List.{flat_map}
 use Rattle.kinds.specs.Typed.{Double, Whole, TypedCandidate}
 
@@ -53,15 +55,20 @@ pub option_back : (o : Option ℕ) → word_option (flag (is_some o)) (unwrap_or
 option_back None = refl
 option_back (Some n) = refl
 
-pub setup-back : (S : Setup) (rest : List ℕ) → Double S.mutation_factor → Double S.crossover_rate → setup_in (setup_words S ++ rest) ≡ S
+rule-back : (r : BoundsRule) → rule_has_place r ≡ true → Clamp ≡ r
+rule-back Clamp e = refl
+rule-back Midpoint e = absurd (true≢false (sym e))
+
+pub setup-back : (S : Setup) (rest : List ℕ) → has_place S ≡ true → Double S.mutation_factor → Double S.crossover_rate → setup_in (setup_words S ++ rest) ≡ S
 unfolding setup_in setup_words
-setup-back S rest f r =
+setup-back S rest h f r =
     λ i. record {
       mutation_factor = double-back S.mutation_factor f i;
       crossover_rate = double-back S.crossover_rate r i;
       strategy = strategy-back S.strategy i;
       population_size = option_back S.population_size i;
       seed = S.seed;
+      bounds_rule = rule-back S.bounds_rule h i;
     }
 
 -- ---- a dimension

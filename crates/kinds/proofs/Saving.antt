@@ -1,4 +1,4 @@
--- A sound state comes back from its own records.
+-- A sound state comes back from its own records, if these have a place for its set-up.
 use Rattle.std.specs.Prelude.{Option, Some, None, is_none}
 use Prim.Native.Nat.{ℕ, ◌+◌, ◌-◌, ◌%◌, ◌^◌, ◌≤◌, min, max}
 use native.Mathlib.Omega.{arith}
@@ -35,7 +35,7 @@ use Rattle.state.proofs.Measured.{arrays-of}
 use Rattle.state.proofs.Whole.{of-sound, few-candidates, few-parents}
 use Rattle.records.proofs.Lists.{all_of, all_take}
 use Rattle.kinds.specs.Opened.{row, dim_at, state_in}
-use Rattle.kinds.specs.Rows.{flag, setup_words, dim_words, dim_in, trial_words, trial_in, candidate_words, candidate_in, member_words, member_in}
+use Rattle.kinds.specs.Rows.{flag, has_place, setup_words, dim_words, dim_in, trial_words, trial_in, candidate_words, candidate_in, member_words, member_in}
 use Rattle.std.specs.List.{flat_map}
 use Rattle.kinds.specs.Kinds.{dims_of, count_words, dims_words, trials_words, parents_words, candidates_words}
 use Rattle.kinds.specs.Typed.{Double, TypedDistribution, TypedState, TypedCandidate}
@@ -164,12 +164,12 @@ module _ (s : State) (e : sound_state s ≡ true) (p : TypedState s) where
   parents-whole = ap (pad_to 160 blank_member) (sym (back member_of parent_of (take (parent_count s) s.parents) (λ x. refl))) ∙ ap (λ (t : State). t.parents) (sym whole)
 
   -- THE STATE COMES BACK from the tables of its words
-  pub state-back : state_in (in_table (setup_words s.setup)) (in_table (count_words s)) (in_table (dims_words s)) (in_table (trials_words s)) (in_table (parents_words s)) (in_table (candidates_words s)) ≡ s
+  pub state-back : has_place s.setup ≡ true → state_in (in_table (setup_words s.setup)) (in_table (count_words s)) (in_table (dims_words s)) (in_table (trials_words s)) (in_table (parents_words s)) (in_table (candidates_words s)) ≡ s
   unfolding state_in count_words
-  state-back =
+  state-back h =
       let closed = small-back s.closed (measured-of s p).closed in
       λ i. record {
-        setup = setup-back s.setup (replicate (3600 - length (setup_words s.setup)) 0) p.factor p.rate i;
+        setup = setup-back s.setup (replicate (3600 - length (setup_words s.setup)) 0) h p.factor p.rate i;
         first = option_back s.first i;
         discovered = flag-back s.discovered i;
         n = s.n;

@@ -13,6 +13,8 @@ use Rattle.common.specs.Places.{place_of, at_place}
 use Rattle.candidates.specs.Candidate.{packed}
 use Rattle.candidates.specs.declared.Candidate.{Candidate}
 use Rattle.evolution.specs.Strategy.{strategy_number, strategy_from}
+use Rattle.evolution.specs.declared.BoundsRule.{BoundsRule}
+use Rattle.evolution.specs.declared.BoundsRule.TheVariants.{Clamp, Midpoint}
 use Rattle.evolution.specs.declared.DEStrategy.{DEStrategy}
 use Rattle.evolution.specs.declared.DEStrategy.TheVariants.{CurrentToBest1}
 use Rattle.evolution.specs.declared.Member.{Member}
@@ -54,6 +56,14 @@ setup_words S =
     ∷ S.seed
     ∷ []
 
+-- "The saved file has no place for midpoint yet" (document 02, W7): no word holds the bounds rule, and what is read has clamp
+abbrev pub rule_has_place : BoundsRule → Bool
+rule_has_place Clamp = true
+rule_has_place Midpoint = false
+
+abbrev pub has_place : Setup → Bool
+has_place S = rule_has_place S.bounds_rule
+
 unfoldable pub setup_in : List ℕ → Setup
 setup_in ws =
     record {
@@ -62,6 +72,7 @@ setup_in ws =
       strategy = word_strategy (get_or ws 2 0);
       population_size = word_option (get_or ws 3 0) (get_or ws 4 0);
       seed = get_or ws 5 0;
+      bounds_rule = Clamp;
     }
 
 -- ---- a dimension: 1 float, low, high, whether it has a step, the step; 2 int, likewise; 3 categorical, its number of choices. Unused words are 0.

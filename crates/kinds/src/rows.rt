@@ -1,12 +1,12 @@
 // The words of each part of a state, and each part from its words.
 ghost use Rattle.std.specs.Prelude.{◌≡◌, ◌≤◌, length};
-ghost use Rattle.kinds.specs.Rows.{word_option, setup_words, setup_in, dim_words, dim_in, trial_words, trial_in};
+ghost use Rattle.kinds.specs.Rows.{word_option, has_place, setup_words, setup_in, dim_words, dim_in, trial_words, trial_in};
 
 use common::places::{at_place, place};
 use distribution::{
     CategoricalDistribution, DimensionInfo, Distribution, FloatDistribution, IntDistribution,
 };
-use evolution::{DEStrategy, Setup};
+use evolution::{BoundsRule, DEStrategy, Setup};
 use numbers::{bits_of, real};
 use state::TrialProgress;
 
@@ -15,6 +15,16 @@ pub fn word_option(flag: u64, w: u64) -> Option<u64>
     ensures { result ≡ word_option flag w }
 {
     (flag != 0).then_some(w)
+}
+
+// Whether the six words hold the whole set-up: none holds the bounds rule, and what is read has clamp.
+pub fn has_place(s: Setup) -> bool
+    ensures { result ≡ has_place s }
+{
+    match s.bounds_rule {
+        BoundsRule::Clamp => true,
+        BoundsRule::Midpoint => false,
+    }
 }
 
 #[tactic(auto, unfolding(crate::specs::Rows::setup_words))]
@@ -44,6 +54,7 @@ pub fn setup_in(row: &[u64]) -> Setup
         strategy: DEStrategy::from_number(row[2]).unwrap_or(DEStrategy::CurrentToBest1),
         population_size: word_option(row[3], row[4]),
         seed: row[5],
+        bounds_rule: BoundsRule::Clamp,
     }
 }
 

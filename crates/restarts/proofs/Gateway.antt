@@ -1,5 +1,5 @@
--- THE CODE'S RESTARTS: every state that typed calls lead to can be saved and comes back, so the state that a gateway holds is that of the surviving calls, and the
--- claim of demand 3 holds of it as of one list. `TypedSetup` and `TypedCall` are what the types say of each set-up and call that the code is handed.
+-- THE CODE'S RESTARTS: every state that typed calls lead to from a set-up with clamp can be saved and comes back, so the state that a gateway holds is that of the
+-- surviving calls, and the claim of demand 3 holds of it as of one list. `TypedSetup` and `TypedCall` are what the types say of each set-up and call that the code is handed.
 use Rattle.std.specs.Prelude.{Some, Ok, Err, is_ok, Result}
 use Prim.Native.Nat.{ℕ, ◌≤◌}
 use native.Mathlib.Omega.{arith}
@@ -27,12 +27,14 @@ use Rattle.kernel.proofs.Kernel.{de-laws}
 use Rattle.state.specs.Setup.{setup_verdict}
 use Rattle.state.specs.View.{laid, view}
 use Rattle.state.specs.declared.State.{State}
+use Rattle.state.proofs.Flags.{and-true}
 use Rattle.state.proofs.Laid.{laid-sound, view-laid}
 use Rattle.de.specs.Build.{fresh_state}
 use Rattle.de.specs.Program.{ran, program}
 use Rattle.de.specs.Sample.{sample_of, laid_result}
 use Rattle.de.proofs.Demand.{de-demand3}
 use Rattle.records.proofs.Written.{records-length}
+use Rattle.kinds.specs.Rows.{has_place}
 use Rattle.kinds.specs.Typed.{TypedSetup, Double, Word}
 use Rattle.kinds.proofs.Typed.{measured-of}
 use Rattle.saved.specs.Save.{save_of, saved_in}
@@ -74,7 +76,7 @@ module _ (lent : List ℕ) (room : Room lent) (s : State) (v : Savable s) where
 
   pub saved-length : save_of s (length lent) ≡ Ok (length (file_of s))
   unfolding save_of
-  saved-length = λ i. cond (v.sound i) (cond (le-ltb (length lent) (length (file_of s)) short i) (Err BadFile) (Ok (length (file_of s)))) (Err BadContent)
+  saved-length = λ i. cond (and-true v.sound v.place i) (cond (le-ltb (length lent) (length (file_of s)) short i) (Err BadFile) (Ok (length (file_of s)))) (Err BadContent)
 
   pub saved-file : saved_file s lent ≡ Some (file_of s)
   saved-file = ap (λ (r : Result ℕ FileRefusal). kept_by r (saved_in s lent)) saved-length ∙ ap Some (bytes-written s lent (length (file_of s)) saved-length)
@@ -87,8 +89,8 @@ module _ (S : Setup) (ok : is_ok (setup_verdict S) ≡ true) (typed : TypedSetup
     pub fine : FineState plain
     pub is : s ≡ laid S plain
 
-  pub reached-savable : (s : State) → Reached s → Savable s
-  reached-savable s k = subst Savable (sym k.is) (laid-savable S ok typed k.plain k.sound k.fine)
+  pub reached-savable : (s : State) → Reached s → has_place S ≡ true → Savable s
+  reached-savable s k place = subst Savable (sym k.is) (laid-savable S ok typed k.plain k.sound k.fine place)
 
   sampled : (m : Plain.State de) (c : Call de) → Sound de S m → ran (laid S m) c ≡ laid_result S (step de S m c)
   unfolding sample_of laid
@@ -116,28 +118,31 @@ module _ (S : Setup) (ok : is_ok (setup_verdict S) ≡ true) (typed : TypedSetup
   reached-all s [] k g = k
   reached-all s (c ∷ cs) k g = reached-all (stepped s c) cs (reached-call s c k (g c (Memᴰ.head refl))) (λ a m. g a (Memᴰ.tail m))
 
-  pub led-savable : (cs : List (Call de)) → All TypedCall cs → Savable (led cs)
-  led-savable cs g = reached-savable (led cs) (reached-all (fresh_state S) cs reached-fresh g)
+  -- ---- a set-up with clamp, since "the saved file has no place for midpoint yet" (document 02, W7)
 
-  back : (cs : List (Call de)) → All TypedCall cs → (lent : List ℕ) → Room lent
-      → (file : List ℕ) × (saved_file (led cs) lent ≡ Some file) × ((old : State) → restored_from old file ≡ Some (led cs))
-  back cs g lent room =
-      let v = led-savable cs g in
-      (file_of (led cs), saved-file lent room (led cs) v, λ old. ap (λ (r : Restored). if_taken r.answer r.state) (restored-save (led cs) v old))
+  module _ (place : has_place S ≡ true) where
+    pub led-savable : (cs : List (Call de)) → All TypedCall cs → Savable (led cs)
+    led-savable cs g = reached-savable (led cs) (reached-all (fresh_state S) cs reached-fresh g) place
 
-  -- "A list of calls that passes through a save and its own restore counts as one list"
-  pub gateway-one-list : (es : List (Event State (Call de))) → All GoodEvent es → gateway S es ≡ led (surviving State (Call de) es)
-  gateway-one-list es g = one_list State (Call de) stepped (λ old. fresh_state S) saved_file restored_from (fresh_state S) GoodEvent (λ old. refl) back es g
+    back : (cs : List (Call de)) → All TypedCall cs → (lent : List ℕ) → Room lent
+        → (file : List ℕ) × (saved_file (led cs) lent ≡ Some file) × ((old : State) → restored_from old file ≡ Some (led cs))
+    back cs g lent room =
+        let v = led-savable cs g in
+        (file_of (led cs), saved-file lent room (led cs) v, λ old. ap (λ (r : Restored). if_taken r.answer r.state) (restored-save (led cs) v old))
 
-  -- what the gateway answers to its next call is what it would answer had it never been rebooted; with `call-survives`, this is so of each surviving call
-  pub gateway-answers : (es : List (Event State (Call de))) → All GoodEvent es → (c : Call de) → ran (gateway S es) c ≡ ran (led (surviving State (Call de) es)) c
-  gateway-answers es g c = ap (λ (s : State). ran s c) (gateway-one-list es g)
+    -- "A list of calls that passes through a save and its own restore counts as one list"
+    pub gateway-one-list : (es : List (Event State (Call de))) → All GoodEvent es → gateway S es ≡ led (surviving State (Call de) es)
+    gateway-one-list es g = one_list State (Call de) stepped (λ old. fresh_state S) saved_file restored_from (fresh_state S) GoodEvent (λ old. refl) back es g
 
-  -- "for share and for least result alike"
-  pub gateway-claim : (es : List (Event State (Call de))) → All GoodEvent es
-      → (let cs = surviving State (Call de) es in
-      let end = end_from de (program S) S (start de (program S) S) cs in
-      Claim de (program S) S (moments_from de (program S) S (start de (program S) S) cs) (view (gateway S es)) end.defined end.ledger)
-  gateway-claim es g =
-      let cs = surviving State (Call de) es in
-      one-claim de (program S) S cs (gateway S es) (gateway-one-list es g ∙ sym (end-led de (program S) S (start de (program S) S) cs)) (de-demand3 S ok cs)
+    -- what the gateway answers to its next call is what it would answer had it never been rebooted; with `call-survives`, this is so of each surviving call
+    pub gateway-answers : (es : List (Event State (Call de))) → All GoodEvent es → (c : Call de) → ran (gateway S es) c ≡ ran (led (surviving State (Call de) es)) c
+    gateway-answers es g c = ap (λ (s : State). ran s c) (gateway-one-list es g)
+
+    -- "for share and for least result alike"
+    pub gateway-claim : (es : List (Event State (Call de))) → All GoodEvent es
+        → (let cs = surviving State (Call de) es in
+        let end = end_from de (program S) S (start de (program S) S) cs in
+        Claim de (program S) S (moments_from de (program S) S (start de (program S) S) cs) (view (gateway S es)) end.defined end.ledger)
+    gateway-claim es g =
+        let cs = surviving State (Call de) es in
+        one-claim de (program S) S cs (gateway S es) (gateway-one-list es g ∙ sym (end-led de (program S) S (start de (program S) S) cs)) (de-demand3 S ok cs)

@@ -4,3 +4,4 @@ pub mod Laid
 pub mod Made
 pub mod Restarts
 pub mod Typed
+pub mod Unsaved

@@ -9,7 +9,7 @@ use mathlib.Core.List.{List, [], ◌∷◌, map}
 use lib.Dec.{eqb}
 use lib.Ieee.{Float, nan, binary64, add, sub, mul, lt}
 use lib.Ieee.Bits.{of_bits-fits}
-use lib.Ieee.Fits.{add-fits, nan-fits, of_int-fits}
+use lib.Ieee.Fits.{add-fits, div-fits, nan-fits, of_int-fits}
 use lib.ListN.{length, get_or}
 use Rattle.rng_util.specs.Draws.{unit_of, usize_of}
 use Rattle.rng_util.specs.Gen.{draw_of, Made}
@@ -35,9 +35,11 @@ use Rattle.candidates.specs.Space.{continuous_dims, continuous_bounds, space_of}
 use Rattle.candidates.specs.declared.Candidate.{Candidate}
 use Rattle.candidates.specs.declared.Space.{Space}
 use Rattle.candidates.proofs.Passed.{few-continuous}
-use Rattle.evolution.specs.Cross.{judged_entry, cross_entry, cross_at, crossed}
+use Rattle.evolution.specs.Cross.{two, clamped, halfway, drawn_in, judged_entry, cross_entry, cross_at, crossed}
 use Rattle.evolution.specs.Mutant.{no_member, entries, mutant_entry, mutant_at, indices_for}
 use Rattle.evolution.specs.Trial.{trial_of, trial_vectors, next_candidates}
+use Rattle.evolution.specs.declared.BoundsRule.{BoundsRule}
+use Rattle.evolution.specs.declared.BoundsRule.TheVariants.{Clamp, Midpoint}
 use Rattle.evolution.specs.declared.DEStrategy.{DEStrategy}
 use Rattle.evolution.specs.declared.DEStrategy.TheVariants.{Rand1, Best1, CurrentToBest1}
 use Rattle.evolution.specs.declared.Member.{Member}
@@ -88,24 +90,25 @@ candidates-word : (s : Space) (N : ℕ) (g : Gen) → Word g.word → Word (rand
 unfolding random_candidates
 candidates-word s N g w = many-word (candidate_at s) (λ j. candidate-word s) N 0 g w
 
-cross-word : (CR : Float) (star : ℕ) (v x : Float) (b : Bounds) (j : ℕ) (g : Gen) → Word g.word → Word (cross_entry CR star v x b j g).after.word
+cross-word : (rule : BoundsRule) (CR : Float) (star : ℕ) (v x : Float) (b : Bounds) (j : ℕ) (g : Gen) → Word g.word → Word (cross_entry rule CR star v x b j g).after.word
 unfolding cross_entry
-cross-word CR star v x b j g w = go (eqb j star)
+cross-word rule CR star v x b j g w = go (eqb j star)
   where
-    go : (t : Bool) → Word (cond {A = Made Float} t (record { out = judged_entry b v; after = g }) (record { out = judged_entry b (cond (lt (unit_of (draw_of g).out) CR) v x); after = (draw_of g).after })).after.word
+    go : (t : Bool) → Word (cond {A = Made Float} t (record { out = judged_entry rule b x v; after = g })
+        (record { out = cond (lt (unit_of (draw_of g).out) CR) (judged_entry rule b x v) (clamped b x); after = (draw_of g).after })).after.word
     go true = w
     go false = after-draw g
 
-crossed-word : (CR : Float) (star : ℕ) (v x : ℕ → Float) (s : Space) (g : Gen) → Word g.word → Word (crossed CR star v x s g).after.word
+crossed-word : (rule : BoundsRule) (CR : Float) (star : ℕ) (v x : ℕ → Float) (s : Space) (g : Gen) → Word g.word → Word (crossed rule CR star v x s g).after.word
 unfolding crossed
-crossed-word CR star v x s g w = many-word (cross_at CR star v x s) (λ j h u. cross-word CR star (v j) (x j) (get_or s.bounds j nan_bounds) j h u) s.n 0 g w
+crossed-word rule CR star v x s g w = many-word (cross_at rule CR star v x s) (λ j h u. cross-word rule CR star (v j) (x j) (get_or s.bounds j nan_bounds) j h u) s.n 0 g w
 
 trial-word : (S : Setup) (x : ℕ → ℕ → Float) (N best : ℕ) (s : Space) (i : ℕ) (g : Gen) → Word (trial_of S x N best s i g).after.word
 unfolding trial_of
 trial-word S x N best s i g =
     let t = indices_for S N i g in
     let d = draw_of t.after in
-    choices-word s _ (crossed-word S.crossover_rate (usize_of d.out s.n) (mutant_at S x best i t.out) (x i) s d.after (after-draw t.after))
+    choices-word s _ (crossed-word S.bounds_rule S.crossover_rate (usize_of d.out s.n) (mutant_at S x best i t.out) (x i) s d.after (after-draw t.after))
 
 nexts-word : (S : Setup) (ps : List Member) (best : ℕ) (s : Space) (g : Gen) → Word g.word → Word (next_candidates S ps best s g).after.word
 unfolding next_candidates trial_vectors
@@ -129,6 +132,20 @@ clamp-double v low high a b c = go (lt v low) (lt high v)
     go : (s t : Bool) → Double (cond s low (cond t high v))
     go true t = b
     go false true = c
+    go false false = a
+
+half-double : (x bound : Float) → Double (halfway x bound)
+unfolding halfway
+half-double x bound = div-fits binary64 (add binary64 x bound) two
+
+drawn-double : (rule : BoundsRule) (b : Bounds) (x v : Float) → Double v → Double (drawn_in rule b x v)
+unfolding drawn_in
+drawn-double Clamp b x v a = a
+drawn-double Midpoint b x v a = go (lt v b.low) (lt b.high v)
+  where
+    go : (s t : Bool) → Double (cond s (halfway x b.low) (cond t (halfway x b.high) v))
+    go true t = half-double x b.low
+    go false true = half-double x b.high
     go false false = a
 
 mutant-double : (s : DEStrategy) (F x b x1 x2 x3 : Float) → Double (mutant_entry s F x b x1 x2 x3)
@@ -201,13 +218,16 @@ module _ (ds : List DimensionInfo) (few : length ds ≤ 16) (h : All TypedDim ds
   unfolding random_candidates
   firsts-doubles N g = all_made Doubles (candidate_at s) N (λ j l e. random-doubles e) N 0 g (omega arith)
 
-  cross-double : (CR : Float) (star : ℕ) (v x : Float) (b : Bounds) (j : ℕ) (g : Gen) → Double v → Double x → DoubleBounds b → Double (cross_entry CR star v x b j g).out
+  cross-double : (rule : BoundsRule) (CR : Float) (star : ℕ) (v x : Float) (b : Bounds) (j : ℕ) (g : Gen) → Double v → Double x → DoubleBounds b → Double (cross_entry rule CR star v x b j g).out
   unfolding cross_entry
-  cross-double CR star v x b j g p q r = go (eqb j star) (lt (unit_of (draw_of g).out) CR)
+  cross-double rule CR star v x b j g p q r = go (eqb j star) (lt (unit_of (draw_of g).out) CR)
     where
-      go : (t u : Bool) → Double (cond {A = Made Float} t (record { out = judged_entry b v; after = g }) (record { out = judged_entry b (cond u v x); after = (draw_of g).after })).out
-      go true u = clamp-double v b.low b.high p r.0 r.1
-      go false true = clamp-double v b.low b.high p r.0 r.1
+      mutants : Double (judged_entry rule b x v)
+      mutants = clamp-double (drawn_in rule b x v) b.low b.high (drawn-double rule b x v p) r.0 r.1
+
+      go : (t u : Bool) → Double (cond {A = Made Float} t (record { out = judged_entry rule b x v; after = g }) (record { out = cond u (judged_entry rule b x v) (clamped b x); after = (draw_of g).after })).out
+      go true u = mutants
+      go false true = mutants
       go false false = clamp-double x b.low b.high q r.0 r.1
 
   module _ (S : Setup) (x : ℕ → ℕ → Float) (xs : (i j : ℕ) → Double (x i j)) (N best : ℕ) where
@@ -216,10 +236,10 @@ module _ (ds : List DimensionInfo) (few : length ds ≤ 16) (h : All TypedDim ds
     trial-doubles i g =
         let t = indices_for S N i g in
         let d = draw_of t.after in
-        let make = cross_at S.crossover_rate (usize_of d.out s.n) (mutant_at S x best i t.out) (x i) s in
+        let make = cross_at S.bounds_rule S.crossover_rate (usize_of d.out s.n) (mutant_at S x best i t.out) (x i) s in
         packed-doubles (many make s.n 0 d.after).out (many make s.n 0 d.after).after (omega (arith, many-length make s.n 0 d.after, n-few))
         (all_made Double make s.n
-        (λ j l e. cross-double S.crossover_rate (usize_of d.out s.n) (mutant_at S x best i t.out j) (x i j) (get_or s.bounds j nan_bounds) j e (mutant-double S.strategy _ _ _ _ _ _) (xs i j) (bounds-at j))
+        (λ j l e. cross-double S.bounds_rule S.crossover_rate (usize_of d.out s.n) (mutant_at S x best i t.out j) (x i j) (get_or s.bounds j nan_bounds) j e (mutant-double S.strategy _ _ _ _ _ _) (xs i j) (bounds-at j))
         s.n 0 d.after (omega arith))
 
   entries-double : (ps : List Member) → All (λ (m : Member). Doubles m.candidate) ps → (i j : ℕ) → Double (entries ps i j)

@@ -25,7 +25,7 @@ module _ (Kept Call : Type 0) where
   pub call-survives : (es : List (Event Kept Call)) (c : Call) → surviving Kept Call (es ++ (call c ∷ [])) ≡ surviving Kept Call es ++ (c ∷ [])
   call-survives es c = counted-more es (record { calls = []; saved = [] }) c
 
-  led-more : (step : Kept → Call → Kept) (s : Kept) (cs : List Call) (c : Call) → led_to Kept Call step s (cs ++ (c ∷ [])) ≡ step (led_to Kept Call step s cs) c
+  pub led-more : (step : Kept → Call → Kept) (s : Kept) (cs : List Call) (c : Call) → led_to Kept Call step s (cs ++ (c ∷ [])) ≡ step (led_to Kept Call step s cs) c
   unfolding led_to
   led-more step s [] c = refl
   led-more step s (d ∷ cs) c = led-more step (step s d) cs c

@@ -1,5 +1,5 @@
 -- The code's writer and reader as a gateway uses them, and the calls that it can make.
-use Rattle.std.specs.Prelude.{ℕ, ◌≤◌, List, length, take, Option, Some, None, Result, Ok, Err, ⊤}
+use Rattle.std.specs.Prelude.{ℕ, ◌≤◌, List, [], ◌∷◌, length, take, Option, Some, None, Result, Ok, Err, ⊤}
 use Rattle.history.specs.declared.CompletedTrial.{CompletedTrial}
 use Rattle.ledger.specs.Words.{All}
 use Rattle.ledger.specs.Call.{Call}
@@ -54,3 +54,15 @@ abbrev pub GoodEvent : Event State (Call de) → Type 0
 GoodEvent (call c) = TypedCall c
 GoodEvent (save lent) = Room lent
 GoodEvent (reboot n old) = Unit {0}
+
+-- ---- under midpoint no save makes a file (document 02, W7): the events but the saves, of which nothing is asked but typed calls
+unfoldable pub unsaved : List (Event State (Call de)) → List (Event State (Call de))
+unsaved [] = []
+unsaved (call c ∷ es) = call c ∷ unsaved es
+unsaved (save lent ∷ es) = unsaved es
+unsaved (reboot n left ∷ es) = reboot n left ∷ unsaved es
+
+abbrev pub TypedEvent : Event State (Call de) → Type 0
+TypedEvent (call c) = TypedCall c
+TypedEvent (save lent) = Unit {0}
+TypedEvent (reboot n left) = Unit {0}

@@ -25,6 +25,7 @@ module _ (f : List ℕ) (bytes : Bytes f) (s : State) (v : Saves f s) where
   saves-savable =
       record {
         sound = v.of.sound;
+        place = v.of.place;
         typed = v.of.typed;
         small = λ kind a b. section-small kind (kind_words s kind) (λ p m. own-fit p (within s kind a b m));
       }

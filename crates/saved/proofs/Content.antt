@@ -1,4 +1,4 @@
--- THE RECORDS ON A CHAIN: they are taken exactly where they are those of a sound state of the machine, each once, in any order; else 13.
+-- THE RECORDS ON A CHAIN: they are taken exactly where they are those of a sound state of the machine with clamp, each once, in any order; else 13.
 use Rattle.std.specs.Prelude.{Ok, Err, Result}
 use Prim.Native.Nat.{ℕ, ◌≤◌}
 use native.Mathlib.Omega.{arith}
@@ -18,6 +18,7 @@ use Rattle.records.specs.declared.Piece.{Piece}
 use Rattle.records.specs.declared.Table.{Table}
 use Rattle.records.proofs.Sections.{tables-of, agrees-perm, agrees-exactly}
 use Rattle.records.proofs.Tabled.{full_table}
+use Rattle.kinds.specs.Rows.{has_place, setup_in}
 use Rattle.kinds.specs.Typed.{TypedState}
 use Rattle.kinds.specs.Kinds.{kind_words, Roomy}
 use Rattle.kinds.specs.Opened.{state_in}
@@ -34,7 +35,7 @@ use Rattle.saved.proofs.Wrote.{roomy}
 
 -- ---- a sound state's own records, in any order
 
-module _ (s : State) (e : sound_state s ≡ true) (p : TypedState s) where
+module _ (s : State) (e : sound_state s ≡ true) (h : has_place s.setup ≡ true) (p : TypedState s) where
   room : Roomy s
   room = roomy s (measured-of s p) e
 
@@ -54,7 +55,7 @@ module _ (s : State) (e : sound_state s ≡ true) (p : TypedState s) where
     state-on =
         (λ i. state_in (words 1 (omega arith) (omega arith) i) (words 2 (omega arith) (omega arith) i) (words 3 (omega arith) (omega arith) i) (words 4 (omega arith) (omega arith) i)
         (words 5 (omega arith) (omega arith) i) (words 6 (omega arith) (omega arith) i))
-        ∙ state-back s e p
+        ∙ state-back s e p h
 
     pub own-taken : content_of rs ≡ Ok s
     unfolding content_of pieces_of
@@ -111,6 +112,11 @@ module _ (rs : List Piece) where
   pub refused-not-taken : (s : State) → content_of rs ≡ Err BadContent → content_of rs ≡ Ok s → ⊥
   refused-not-taken s e d = apart BadContent (sym e ∙ d)
 
+-- what is taken has clamp, so it has a place
+taken-place : (rs : List Piece) (s : State) → content_of rs ≡ Ok s → has_place s.setup ≡ true
+unfolding state_in setup_in
+taken-place rs s e = subst (λ (t : State). has_place t.setup ≡ true) (read rs s e).is refl
+
 -- what is taken is a state of the machine
 taken-typed : (rs : List Piece) (s : State) → content_of rs ≡ Ok s → TypedState s
 taken-typed rs s e =
@@ -123,8 +129,8 @@ taken-typed rs s e =
 module _ (rs : List Piece) where
   pub taken-exactly : (s : State) → (content_of rs ≡ Ok s) ↔ Of rs s
   taken-exactly s = (
-    λ e. let r = content-exactly rs s e in record { sound = r.0; typed = taken-typed rs s e; records = r.1 },
-    λ o. own-taken s o.sound o.typed rs o.records,
+    λ e. let r = content-exactly rs s e in record { sound = r.0; place = taken-place rs s e; typed = taken-typed rs s e; records = r.1 },
+    λ o. own-taken s o.sound o.place o.typed rs o.records,
   )
 
   pub refused-exactly : (content_of rs ≡ Err BadContent) ↔ ((s : State) → Of rs s → ⊥)
@@ -141,4 +147,4 @@ any_order rs qs r = ⊎_elim
     (content-cases rs)
   where
     moved : {ps qs : List Piece} {s : State} → Permᴰ ps qs → Of qs s → Of ps s
-    moved t o = record { sound = o.sound; typed = o.typed; records = Permᴰ.trans t o.records }
+    moved t o = record { sound = o.sound; place = o.place; typed = o.typed; records = Permᴰ.trans t o.records }

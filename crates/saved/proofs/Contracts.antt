@@ -13,7 +13,9 @@ use Rattle.state.specs.Sound.{sound_state}
 use Rattle.state.specs.declared.State.{State}
 use Rattle.saved.specs.File.{file_of}
 use Rattle.saved.specs.Restore.{taken, restore_of}
-use Rattle.saved.specs.Save.{save_of, saved_in}
+use Rattle.kinds.specs.Rows.{has_place}
+use Rattle.saved.specs.Save.{is_savable, save_of, saved_in}
+use Rattle.std.proofs.lemmas.Bool.{and_parts}
 use Rattle.saved.specs.declared.FileRefusal.TheVariants.{BadFile, BadContent}
 use Rattle.saved.specs.declared.FileRefusal.{FileRefusal}
 use Rattle.saved.proofs.RoundTrip.{Savable, restored-save}
@@ -31,14 +33,14 @@ module _ (s : State) (f : List ℕ) where
   size = length (file_of s)
 
   answer : Bool → Bool → Result ℕ FileRefusal
-  answer sound short = cond sound (cond short (Err BadFile) (Ok size)) (Err BadContent)
+  answer fine short = cond fine (cond short (Err BadFile) (Ok size)) (Err BadContent)
 
-  answered : (x y : Bool) → sound_state s ≡ x → ltb (length f) size ≡ y → save_of s (length f) ≡ answer x y
+  answered : (x y : Bool) → is_savable s ≡ x → ltb (length f) size ≡ y → save_of s (length f) ≡ answer x y
   unfolding save_of answer
   answered x y p q = λ i. cond (p i) (cond (q i) (Err BadFile) (Ok size)) (Err BadContent)
 
   -- where `save` answers a length, the file starts with the state's file, and is then as it was
-  written : (x y : Bool) → sound_state s ≡ x → ltb (length f) size ≡ y → (n : ℕ) → answer x y ≡ Ok n → (n ≡ size) × (sound_state s ≡ true) × (saved_in s f ≡ file_of s ++ drop size f)
+  written : (x y : Bool) → is_savable s ≡ x → ltb (length f) size ≡ y → (n : ℕ) → answer x y ≡ Ok n → (n ≡ size) × (is_savable s ≡ true) × (saved_in s f ≡ file_of s ++ drop size f)
   unfolding saved_in answer is_length length_of
   written true false p q n e =
       let l : size ≤ length f = ltb-false (length f) size q in
@@ -47,19 +49,22 @@ module _ (s : State) (f : List ℕ) where
   written false y p q n e = let z = ap is_length e in absurd (omega arith)
 
   -- where it refuses, the file is as it was
-  unwritten : (x y : Bool) → sound_state s ≡ x → ltb (length f) size ≡ y → (r : FileRefusal) → answer x y ≡ Err r → saved_in s f ≡ f
+  unwritten : (x y : Bool) → is_savable s ≡ x → ltb (length f) size ≡ y → (r : FileRefusal) → answer x y ≡ Err r → saved_in s f ≡ f
   unfolding saved_in answer is_length
   unwritten true false p q r e = let z = ap is_length e in absurd (omega arith)
   unwritten true true p q r e = λ i. cond (p i && lt-leb size (length f) (ltb-true (length f) size q) i) (file_of s ++ drop size f) f
   unwritten false y p q r e = λ i. cond (p i && leb size (length f)) (file_of s ++ drop size f) f
 
   module _ (n : ℕ) (e : save_of s (length f) ≡ Ok n) where
-    all : (n ≡ size) × (sound_state s ≡ true) × (saved_in s f ≡ file_of s ++ drop size f)
-    all = written (sound_state s) (ltb (length f) size) refl refl n (sym (answered (sound_state s) (ltb (length f) size) refl refl) ∙ e)
+    all : (n ≡ size) × (is_savable s ≡ true) × (saved_in s f ≡ file_of s ++ drop size f)
+    all = written (is_savable s) (ltb (length f) size) refl refl n (sym (answered (is_savable s) (ltb (length f) size) refl refl) ∙ e)
 
-    -- only a sound state is written
+    -- only a sound state is written, and one that the file has a place for
     pub is-sound : sound_state s ≡ true
-    is-sound = all.1
+    is-sound = (and_parts (sound_state s) (has_place s.setup) all.1).0
+
+    pub in-place : has_place s.setup ≡ true
+    in-place = (and_parts (sound_state s) (has_place s.setup) all.1).1
 
     -- "It reports the file's length and touches nothing past it"
     pub file-length : n ≡ length (file_of s)
@@ -77,4 +82,4 @@ module _ (s : State) (f : List ℕ) where
 
   pub refused-untouched : (r : FileRefusal) → save_of s (length f) ≡ Err r → saved_in s f ≡ f
   refused-untouched r e =
-      unwritten (sound_state s) (ltb (length f) size) refl refl r (sym (answered (sound_state s) (ltb (length f) size) refl refl) ∙ e)
+      unwritten (is_savable s) (ltb (length f) size) refl refl r (sym (answered (is_savable s) (ltb (length f) size) refl refl) ∙ e)

@@ -9,3 +9,4 @@ pub mod RoundTrip
 pub mod Survives
 pub mod Thirteen
 pub mod Wrote
+pub mod Place

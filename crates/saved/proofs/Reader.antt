@@ -18,11 +18,12 @@ use Rattle.records.specs.declared.Table.{Table}
 use Rattle.records.proofs.Written.{records-length}
 use Rattle.records.proofs.Exact.{chain-walk}
 use Rattle.kinds.specs.Kinds.{kind_number, kind_words}
+use Rattle.kinds.specs.Rows.{has_place}
 use Rattle.kinds.specs.Opened.{state_of}
 use Rattle.kinds.specs.declared.kind.Kind.{Kind}
 use Rattle.saved.specs.File.{pieces_of, file_of}
 use Rattle.saved.specs.Restore.{state_on, content_of, chained, state_read}
-use Rattle.saved.specs.Save.{save_of, saved_in}
+use Rattle.saved.specs.Save.{is_savable, save_of, saved_in}
 use Rattle.saved.specs.declared.FileRefusal.TheVariants.{BadFile, BadContent}
 use Rattle.saved.specs.declared.FileRefusal.{FileRefusal}
 use Rattle.saved.proofs.Wrote.{all_kinds}
@@ -33,14 +34,25 @@ module _ (s : State) (f : List ℕ) where
   abbrev Saved : Result ℕ FileRefusal → List ℕ → Type 0
   Saved r g = (r ≡ save_of s (length f)) × (g ≡ saved_in s f)
 
-  pub not-sound : sound_state s ≡ false → Saved (Err BadContent) f
+  -- neither a state that is not sound nor one with no place is written
+  pub unsound : sound_state s ≡ false → is_savable s ≡ false
+  unsound e = ap (λ (b : Bool). b && has_place s.setup) e
+
+  pub no-place : has_place s.setup ≡ false → is_savable s ≡ false
+  no-place e = ap (λ (b : Bool). sound_state s && b) e ∙ and-none (sound_state s)
+    where
+      and-none : (b : Bool) → (b && false) ≡ false
+      and-none true = refl
+      and-none false = refl
+
+  pub not-savable : is_savable s ≡ false → Saved (Err BadContent) f
   unfolding save_of saved_in
-  not-sound e = (
+  not-savable e = (
     sym (ap (λ (b : Bool). cond b (cond (ltb (length f) (length (file_of s))) (Err BadFile) (Ok (length (file_of s)))) (Err BadContent)) e),
     sym (ap (λ (b : Bool). cond (b && leb (length (file_of s)) (length f)) (file_of s ++ drop (length (file_of s)) f) f) e),
   )
 
-  module _ (e : sound_state s ≡ true) (count : ℕ) (c : count ≡ length (pieces_of s)) where
+  module _ (e : is_savable s ≡ true) (count : ℕ) (c : count ≡ length (pieces_of s)) where
     file-length : 32 * count ≡ length (file_of s)
     unfolding file_of
     file-length = ap (λ (n : ℕ). 32 * n) c ∙ sym (records-length (length (pieces_of s)) 0 (pieces_of s))

@@ -13,6 +13,7 @@ use Rattle.records.specs.Chain.{file_of_pieces, chain_of}
 use Rattle.records.proofs.Fits.{Small, chain-all, file-fits}
 use Rattle.records.proofs.Sections.{sections-fit}
 use Rattle.records.proofs.Written.{Fit}
+use Rattle.kinds.specs.Rows.{has_place}
 use Rattle.kinds.specs.Typed.{TypedState, TypedNumbers}
 use Rattle.kinds.specs.Kinds.{kind_words, Roomy}
 use Rattle.kinds.proofs.Typed.{measured-of}
@@ -25,15 +26,16 @@ use Rattle.saved.specs.declared.Restored.{Restored}
 use Rattle.saved.proofs.Wrote.{pieces-few, roomy, total}
 use Rattle.saved.proofs.Content.{own-taken}
 
--- a state that can be saved: sound, of the machine, and every word has 64 bits
+-- a state that can be saved: sound, with a place in the file, of the machine, and every word has 64 bits
 pub record Savable (s : State) : Type 0 where
   pub sound : sound_state s ≡ true
+  pub place : has_place s.setup ≡ true
   pub typed : TypedState s
   pub small : (kind : ℕ) → 1 ≤ kind → kind ≤ 6 → Small (kind_words s kind)
 
--- so it is of every sound state of the machine
-pub typed-savable : (s : State) → sound_state s ≡ true → TypedState s → TypedNumbers s → Savable s
-typed-savable s e p c = record { sound = e; typed = p; small = λ kind a b. kinds-small s e p c kind }
+-- so it is of every sound state of the machine with clamp
+pub typed-savable : (s : State) → sound_state s ≡ true → has_place s.setup ≡ true → TypedState s → TypedNumbers s → Savable s
+typed-savable s e h p c = record { sound = e; place = h; typed = p; small = λ kind a b. kinds-small s e p c kind }
 
 module _ (s : State) (v : Savable s) where
   abbrev p : TypedState s
@@ -59,7 +61,7 @@ module _ (s : State) (v : Savable s) where
       ap (handed_back old)
       (ap (λ (b : Bool). cond b (Err BadFile) (chained (chain_of (file_of_pieces (pieces_of s))))) (file-fits (pieces_of s) some-pieces)
       ∙ ap chained (chain-all (pieces_of s) some-pieces few-pieces all_fit)
-      ∙ own-taken s v.sound p (pieces_of s) (Permᴰ.refl (pieces_of s)))
+      ∙ own-taken s v.sound v.place p (pieces_of s) (Permᴰ.refl (pieces_of s)))
 
 -- "so equal states have equal bytes": that is `file_of` being a definition. And different ones have different bytes:
 pub bytes-tell : (s t : State) → Savable s → Savable t → file_of s ≡ file_of t → s ≡ t

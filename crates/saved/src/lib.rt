@@ -14,13 +14,14 @@ mod written;
 use crate::compared::kinds_hold;
 use crate::written::{put_state, record_total};
 use kinds::kind::Kind;
+use kinds::rows::has_place;
 use opened::state_in;
 use records::Table;
 use records::chain::{chain_length, collect};
 use state::State;
 
 // 12: an empty file, a length that is no multiple of 32, a next index past the end, a record met twice, a lent file too
-// short. 13: a state that is not sound, or records that are not those of a sound state.
+// short. 13: a state that is not sound or that a file has no place for, or records that are not those of a sound state.
 #[derive(Clone, Copy, Debug, PartialEq, Eq)]
 pub enum FileRefusal {
     BadFile,
@@ -51,7 +52,7 @@ pub struct Restored {
 pub fn save(state: &State, file: &mut [u8]) -> Result<usize, FileRefusal>
     ensures { (result ≡ save_of state.now (length file.old)) × (file.new ≡ saved_in state.now file.old) }
 {
-    if !state.is_sound() {
+    if !state.is_sound() || !has_place(state.setup) {
         return Err(FileRefusal::BadContent);
     }
     let count = record_total(state);
