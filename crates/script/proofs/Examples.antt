@@ -5,13 +5,16 @@ use Rattle.std.specs.Float.Ieee.{of_bits}
 use Rattle.std.specs.Float.{binary64}
 use lib.Ieee.{Float as Double, of_fields, nan}
 use Rattle.distribution.specs.declared.Distribution.TheVariants.{Float, Int, Categorical}
+use Rattle.evolution.specs.declared.BoundsRule.{BoundsRule}
+use Rattle.evolution.specs.declared.BoundsRule.TheVariants.{Clamp, Midpoint}
 use Rattle.evolution.specs.declared.DEStrategy.TheVariants.{CurrentToBest1, Rand1}
+use Rattle.evolution.specs.declared.Setup.{Setup}
 use Rattle.history.specs.declared.TrialState.TheVariants.{Complete, Pruned, Failed}
 use Rattle.numbers.specs.Numbers.{digit_of, all_digits, spelt_after, whole_of, pattern_of, double_of, plain, negated, int_of}
 use Rattle.script.specs.Words.{words_of, word_at}
-use Rattle.script.specs.Fields.{scale_of, state_of, strategy_of}
+use Rattle.script.specs.Fields.{rule_of, scale_of, state_of, strategy_of}
 use Rattle.script.specs.Hex.{is_hex, hex_digit, hex_of, put_bytes, overwritten}
-use Rattle.script.specs.Commands.{new_line, bare_line, file_line, told, put_line, pair_line, triple_line, sample_float, sample_int, range_line, choice_line, line_of, command_of}
+use Rattle.script.specs.Commands.{set_up, bare_line, file_line, told, put_line, pair_line, triple_line, sextuple_line, sample_float, sample_int, range_line, choice_line, line_of, command_of}
 use Rattle.script.specs.declared.command.Command.{Command}
 use Rattle.script.specs.declared.command.Command.TheVariants.{Skip, Clear, Tell, File, Put, Ask}
 use Rattle.script.specs.declared.command.Question.TheVariants.{New, Sample, Look, State, Save, Restore, Bytes}
@@ -23,11 +26,24 @@ said lines = map (λ (line : String). command_of (codes line)) lines
 abbrev half : Double
 half = of_bits binary64 0x3fe0_0000_0000_0000
 
+-- a set-up of size 40 by this bounds rule
+abbrev of_40 : BoundsRule → Setup
+of_40 rule = record {
+  mutation_factor = half;
+  crossover_rate = of_bits binary64 0x3ff0_0000_0000_0000;
+  strategy = Rand1;
+  population_size = Some 40;
+  seed = 0;
+  bounds_rule = rule;
+}
+
 each-rule : said (
     ""
     ∷ "# tell 7"
     ∷ "new 3fe0000000000000 3ff0000000000000 current-to-best1 - 18446744073709551615"
     ∷ "new 3fe0000000000000 3ff0000000000000 rand1 0040 0"
+    ∷ "new 3fe0000000000000 3ff0000000000000 rand1 0040 0 clamp"
+    ∷ "new 3fe0000000000000 3ff0000000000000 rand1 0040 0 midpoint"
     ∷ "clear"
     ∷ "tell 7 3fe0000000000000"
     ∷ "tell 007 fff0000000000001"
@@ -56,14 +72,11 @@ each-rule : said (
       strategy = CurrentToBest1;
       population_size = None;
       seed = 18446744073709551615;
+      bounds_rule = Clamp;
     }))
-    ∷ Ask (New (record {
-      mutation_factor = half;
-      crossover_rate = of_bits binary64 0x3ff0_0000_0000_0000;
-      strategy = Rand1;
-      population_size = Some 40;
-      seed = 0;
-    }))
+    ∷ Ask (New (of_40 Clamp))
+    ∷ Ask (New (of_40 Clamp))
+    ∷ Ask (New (of_40 Midpoint))
     ∷ Clear
     ∷ Tell (record { number = 7; value = half; state = Complete })
     ∷ Tell (record { number = 7; value = nan; state = Complete })
@@ -88,7 +101,7 @@ each-rule : said (
     ∷ Put 30
     ∷ []
     )
-unfolding said command_of line_of new_line bare_line file_line told put_line pair_line triple_line is_hex sample_float sample_int range_line choice_line scale_of state_of strategy_of words_of digit_of all_digits spelt_after whole_of pattern_of double_of plain negated int_of of_bits of_fields
+unfolding said command_of line_of set_up bare_line file_line told put_line pair_line triple_line sextuple_line is_hex sample_float sample_int range_line choice_line rule_of scale_of state_of strategy_of words_of digit_of all_digits spelt_after whole_of pattern_of double_of plain negated int_of of_bits of_fields
 each-rule = refl
 
 -- a space too many, a word too many or too few, a digit in the wrong case, a pattern too short, numbers that do not fit, words that are no keyword
@@ -107,6 +120,15 @@ each-breaks-one : said (
     ∷ "tell 18446744073709551616 3fe0000000000000"
     ∷ "tell -1 3fe0000000000000"
     ∷ "tell : 3fe0000000000000"
+    ∷ "new 3fe0000000000000 3ff0000000000000 rand1 40 0 mid"
+    ∷ "new 3fe0000000000000 3ff0000000000000 rand1 40 0 Midpoint"
+    ∷ "new 3fe0000000000000 3ff0000000000000 rand1 40 0 1"
+    ∷ "new 3fe0000000000000 3ff0000000000000 rand1 40 0 "
+    ∷ "new 3fe0000000000000 3ff0000000000000 rand1 40 0 midpoint "
+    ∷ "new 3fe0000000000000 3ff0000000000000 rand1 40 midpoint"
+    ∷ "new 3fe0000000000000 3ff0000000000000 rand1 40 midpoint 0"
+    ∷ "now 3fe0000000000000 3ff0000000000000 rand1 40 0 midpoint"
+    ∷ "now 3fe0000000000000 3ff0000000000000 rand1 40 0"
     ∷ "sample 7 int 0 9223372036854775808 lin -"
     ∷ "sample 7 int -9223372036854775809 0 lin -"
     ∷ "sample 7 int - 0 lin -"
@@ -125,8 +147,8 @@ each-breaks-one : said (
     ∷ "put 18446744073709551616 00"
     ∷ []
     )
-    ≡ replicate 30 None
-unfolding said command_of line_of new_line bare_line file_line told put_line pair_line triple_line is_hex sample_float sample_int range_line choice_line scale_of state_of strategy_of words_of digit_of all_digits spelt_after whole_of pattern_of double_of plain negated int_of of_bits of_fields
+    ≡ replicate 39 None
+unfolding said command_of line_of set_up bare_line file_line told put_line pair_line triple_line sextuple_line is_hex sample_float sample_int range_line choice_line rule_of scale_of state_of strategy_of words_of digit_of all_digits spelt_after whole_of pattern_of double_of plain negated int_of of_bits of_fields
 each-breaks-one = refl
 
 -- the bytes of a `put` line, and where they go

@@ -4,11 +4,13 @@ use Rattle.std.specs.Prelude.{ℕ, Bool, ◌&&◌, cond, List, [], ◌∷◌, eq
 use Prim.Native.Char.{code}
 use Rattle.distribution.specs.declared.Distribution.{Distribution}
 use Rattle.distribution.specs.declared.Distribution.TheVariants.{Float, Int, Categorical}
+use Rattle.evolution.specs.declared.BoundsRule.{BoundsRule}
+use Rattle.evolution.specs.declared.BoundsRule.TheVariants.{Clamp}
 use Rattle.history.specs.declared.TrialState.{TrialState}
 use Rattle.history.specs.declared.TrialState.TheVariants.{Complete}
 use Rattle.numbers.specs.Numbers.{whole_of, double_of, int_of}
 use Rattle.script.specs.Words.{words_of, is}
-use Rattle.script.specs.Fields.{scale_of, unset_or, state_of, strategy_of}
+use Rattle.script.specs.Fields.{rule_of, scale_of, unset_or, state_of, strategy_of}
 use Rattle.script.specs.Hex.{is_hex}
 use Rattle.script.specs.Reads.{◌>>=◌}
 use Rattle.script.specs.declared.command.Command.{Command}
@@ -19,9 +21,9 @@ use Rattle.script.specs.declared.command.Question.TheVariants.{New, Sample, Look
 abbrev pub when : Bool → Option Command → Option Command
 when right line = cond right line None
 
--- `new F CR STRATEGY SIZE SEED`
-unfoldable pub new_line : List ℕ → List ℕ → List ℕ → List ℕ → List ℕ → List ℕ → Option Command
-new_line key f cr strategy size seed = when (is key "new") (do
+-- a set-up with these words and this bounds rule
+unfoldable pub set_up : List ℕ → List ℕ → List ℕ → List ℕ → List ℕ → BoundsRule → Option Command
+set_up f cr strategy size seed rule = do
   factor ← double_of f
   rate ← double_of cr
   s ← strategy_of strategy
@@ -33,7 +35,18 @@ new_line key f cr strategy size seed = when (is key "new") (do
     strategy = s;
     population_size = n;
     seed = word;
-  }))))
+    bounds_rule = rule;
+  })))
+
+-- `new F CR STRATEGY SIZE SEED`: without a RULE the bounds rule is clamp
+abbrev pub new_line : List ℕ → List ℕ → List ℕ → List ℕ → List ℕ → List ℕ → Option Command
+new_line key f cr strategy size seed = when (is key "new") (set_up f cr strategy size seed Clamp)
+
+-- `new F CR STRATEGY SIZE SEED RULE`
+abbrev pub new_rule_line : List ℕ → List ℕ → List ℕ → List ℕ → List ℕ → List ℕ → Option Command
+new_rule_line f cr strategy size seed word = do
+  rule ← rule_of word
+  set_up f cr strategy size seed rule
 
 -- `clear`, `look`, `state`, `save`, `restore`, `bytes`
 unfoldable pub bare_line : List ℕ → Option Command
@@ -108,6 +121,10 @@ range_line key trial kind low high scale step =
     when (is key "sample")
     (cond (is kind "float") (sample_float trial low high scale step) (when (is kind "int") (sample_int trial low high scale step)))
 
+-- one of the two
+unfoldable pub sextuple_line : List ℕ → List ℕ → List ℕ → List ℕ → List ℕ → List ℕ → List ℕ → Option Command
+sextuple_line key a b c d e f = cond (is key "new") (new_rule_line a b c d e f) (range_line key a b c d e f)
+
 -- `sample TRIAL choice COUNT`
 unfoldable pub choice_line : List ℕ → List ℕ → List ℕ → List ℕ → Option Command
 choice_line key trial kind count = when (is key "sample" && is kind "choice") (do
@@ -128,7 +145,7 @@ line_of (key ∷ a ∷ b ∷ []) = pair_line key a b
 line_of (key ∷ a ∷ b ∷ c ∷ []) = triple_line key a b c
 line_of (key ∷ a ∷ b ∷ c ∷ d ∷ []) = None
 line_of (key ∷ f ∷ cr ∷ strategy ∷ size ∷ seed ∷ []) = new_line key f cr strategy size seed
-line_of (key ∷ trial ∷ kind ∷ low ∷ high ∷ scale ∷ step ∷ []) = range_line key trial kind low high scale step
+line_of (key ∷ a ∷ b ∷ c ∷ d ∷ e ∷ f ∷ []) = sextuple_line key a b c d e f
 line_of (key ∷ a ∷ b ∷ c ∷ d ∷ e ∷ f ∷ g ∷ words) = None
 
 -- "an empty line and a line that begins with `#` are passed over"

@@ -1,5 +1,7 @@
 -- The words that are neither keywords nor numbers.
 use Rattle.std.specs.Prelude.{ℕ, true, false, Bool, cond, List, Option, Some, None, option_map, MatchBool, ◌≡◌}
+use Rattle.evolution.specs.declared.BoundsRule.{BoundsRule}
+use Rattle.evolution.specs.declared.BoundsRule.TheVariants.{Clamp, Midpoint}
 use Rattle.evolution.specs.declared.DEStrategy.{DEStrategy}
 use Rattle.evolution.specs.declared.DEStrategy.TheVariants.{Rand1, Best1, CurrentToBest1}
 use Rattle.history.specs.declared.TrialState.{TrialState}
@@ -31,3 +33,7 @@ strategy_of w =
     cond (is w "rand1") (Some Rand1)
     (cond (is w "best1") (Some Best1)
     (cond (is w "current-to-best1") (Some CurrentToBest1) None))
+
+-- "RULE is `clamp` or `midpoint`"
+unfoldable pub rule_of : List ℕ → Option BoundsRule
+rule_of w = cond (is w "clamp") (Some Clamp) (cond (is w "midpoint") (Some Midpoint) None)

@@ -1,13 +1,13 @@
 // What a line says.
 ghost use Rattle.std.specs.Prelude.{◌≡◌, map};
-ghost use Rattle.script.specs.Commands.{new_line, told, put_line};
-ghost use Rattle.script.specs.Commands.{sample_float, sample_int, range_line, choice_line, line_of, command_of};
+ghost use Rattle.script.specs.Commands.{set_up, told, put_line};
+ghost use Rattle.script.specs.Commands.{sample_float, sample_int, range_line, sextuple_line, choice_line, line_of, command_of};
 
-use crate::fields::{optional, scale, state, strategy};
+use crate::fields::{bounds_rule, optional, scale, state, strategy};
 use crate::hex::is_hex;
 use crate::words::{count, first_words};
 use distribution::{CategoricalDistribution, Distribution, FloatDistribution, IntDistribution};
-use evolution::Setup;
+use evolution::{BoundsRule, Setup};
 use history::{CompletedTrial, TrialState};
 use numbers::{read_double, read_int, read_whole};
 
@@ -39,21 +39,26 @@ pub enum Question {
     Bytes,
 }
 
-// `new F CR STRATEGY SIZE SEED`.
-#[tactic(auto, unfolding(crate::specs::Commands::new_line))]
-fn new(key: &[u8], f: &[u8], cr: &[u8], by: &[u8], size: &[u8], seed: &[u8]) -> Option<Command>
-    ensures { result ≡ new_line key.now f.now cr.now by.now size.now seed.now }
+// `new F CR STRATEGY SIZE SEED`, its keyword seen, with or without its RULE, which is read already.
+#[tactic(auto, unfolding(crate::specs::Commands::set_up))]
+fn set_up(
+    f: &[u8],
+    cr: &[u8],
+    by: &[u8],
+    size: &[u8],
+    seed: &[u8],
+    bounds_rule: BoundsRule,
+) -> Option<Command>
+    ensures { result ≡ set_up f.now cr.now by.now size.now seed.now bounds_rule }
 {
-    match key {
-        b"new" => Some(Command::Ask(Question::New(Setup {
-            mutation_factor: read_double(f)?,
-            crossover_rate: read_double(cr)?,
-            strategy: strategy(by)?,
-            population_size: optional(size, read_whole)?,
-            seed: read_whole(seed)?,
-        }))),
-        _ => None,
-    }
+    Some(Command::Ask(Question::New(Setup {
+        mutation_factor: read_double(f)?,
+        crossover_rate: read_double(cr)?,
+        strategy: strategy(by)?,
+        population_size: optional(size, read_whole)?,
+        seed: read_whole(seed)?,
+        bounds_rule,
+    })))
 }
 
 // `tell TRIAL VALUE`, with or without its STATE, which is read already.
@@ -110,7 +115,7 @@ fn sample_int(trial: &[u8], low: &[u8], high: &[u8], log: &[u8], step: &[u8]) ->
     }))
 }
 
-// A line of seven words. They go on one by one: the pattern in `rule` names them, and a struct of them would be taken apart at once.
+// A `sample` line of seven words. They go on one by one: the pattern in `rule` names them, and a struct of them would be taken apart at once.
 #[tactic(auto, unfolding(crate::specs::Commands::range_line))]
 fn range(
     key: &[u8],
@@ -133,6 +138,25 @@ fn range(
     }
 }
 
+// A line of seven words: `new F CR STRATEGY SIZE SEED RULE`, or a `sample` line.
+#[tactic(auto, unfolding(crate::specs::Commands::sextuple_line))]
+fn sextuple(
+    key: &[u8],
+    a: &[u8],
+    b: &[u8],
+    c: &[u8],
+    d: &[u8],
+    e: &[u8],
+    f: &[u8],
+) -> Option<Command>
+    ensures { result ≡ sextuple_line key.now a.now b.now c.now d.now e.now f.now }
+{
+    match key {
+        b"new" => set_up(a, b, c, d, e, bounds_rule(f)?),
+        _ => range(key, a, b, c, d, e, f),
+    }
+}
+
 // `sample TRIAL choice COUNT`.
 #[tactic(auto, unfolding(crate::specs::Commands::choice_line))]
 fn choice(key: &[u8], trial: &[u8], kind: &[u8], count: &[u8]) -> Option<Command>
@@ -149,8 +173,8 @@ fn choice(key: &[u8], trial: &[u8], kind: &[u8], count: &[u8]) -> Option<Command
     }))
 }
 
-// The rule that the words of a line meet. The keywords of the longer rules are tested by a guard or by their functions: tried as patterns
-// here, and `returns-in-new` and `returns-in-sample` stay open, and `returns-in-len4` for the second `tell`.
+// The rule that the words of a line meet. The keywords of the rules of four and of seven words are tested by a guard or by their functions:
+// tried as patterns here, and `returns-in-sample` stays open, and `returns-in-len4` for the second `tell`.
 #[tactic(auto, unfolding(crate::specs::Commands::line_of, crate::specs::Commands::bare_line, crate::specs::Commands::file_line, crate::specs::Commands::pair_line, crate::specs::Commands::triple_line))]
 fn rule(words: &[&[u8]]) -> Option<Command>
     ensures { result ≡ line_of (map (λ w. w.now) words.now) }
@@ -167,10 +191,8 @@ fn rule(words: &[&[u8]]) -> Option<Command>
         [b"put", offset, hex] => put(offset, hex),
         [key, trial, value, word] if key == b"tell".as_slice() => tell(trial, value, state(word)?),
         [key, trial, kind, count] => choice(key, trial, kind, count),
-        [key, f, cr, by, size, seed] => new(key, f, cr, by, size, seed),
-        [key, trial, kind, low, high, log, step] => {
-            range(key, trial, kind, low, high, log, step)
-        }
+        [b"new", f, cr, by, size, seed] => set_up(f, cr, by, size, seed, BoundsRule::Clamp),
+        [key, a, b, c, d, e, f] => sextuple(key, a, b, c, d, e, f),
         _ => None,
     }
 }

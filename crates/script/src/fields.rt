@@ -1,8 +1,8 @@
 // The words that are neither keywords nor numbers.
 ghost use Rattle.std.specs.Prelude.{◌≡◌};
-ghost use Rattle.script.specs.Fields.{scale_of, state_of, strategy_of, OptionalBy};
+ghost use Rattle.script.specs.Fields.{rule_of, scale_of, state_of, strategy_of, OptionalBy};
 
-use evolution::DEStrategy;
+use evolution::{BoundsRule, DEStrategy};
 use history::TrialState;
 
 // SCALE.
@@ -39,6 +39,18 @@ pub fn strategy(word: &[u8]) -> Option<DEStrategy>
         b"rand1" => Some(DEStrategy::Rand1),
         b"best1" => Some(DEStrategy::Best1),
         b"current-to-best1" => Some(DEStrategy::CurrentToBest1),
+        _ => None,
+    }
+}
+
+// RULE.
+#[tactic(auto, unfolding(crate::specs::Fields::rule_of))]
+pub fn bounds_rule(word: &[u8]) -> Option<BoundsRule>
+    ensures { result ≡ rule_of word.now }
+{
+    match word {
+        b"clamp" => Some(BoundsRule::Clamp),
+        b"midpoint" => Some(BoundsRule::Midpoint),
         _ => None,
     }
 }
