@@ -9,8 +9,8 @@
  * Numbers stand for cases; a number that names no case is answered, never guessed at. Nothing here allocates, locks, or
  * keeps anything between calls: a state is all there is, the caller owns it, and two states never touch each other.
  *
- * A call needs 1.5 MB of stack, which a thread must have: 760 KB were measured for de_restore, which takes the most, 440 KB
- * for a campaign of sample and look calls, and the tests run with 1.5 MB. */
+ * A call needs 1.5 MB of stack, which a thread must have: 760 KB were measured for de_restore, which takes the most,
+ * 440 KB for a campaign of sample and look calls, and the tests run with 1.5 MB. */
 #ifndef EMKHURTOV_H
 #define EMKHURTOV_H
 
@@ -21,14 +21,14 @@
 extern "C" {
 #endif
 
-#define DE_VERSION "0.7.0"
+#define DE_VERSION "0.8.0"
 #define DE_VERSION_MAJOR 0
-#define DE_VERSION_MINOR 7
+#define DE_VERSION_MINOR 8
 #define DE_VERSION_PATCH 0
 
 /* The version of the library that is linked: DE_VERSION, where it is this header's. Where it is another, do not call,
- * and compile anew: no call sees with what header its caller was compiled. In 0.7.0 an entry of the history has
- * grown. */
+ * and compile anew. In 0.7.0 an entry of the history has grown, which no call sees. In 0.8.0 the set-up has, and with it
+ * the state: a checked function that is lent the size of the old one answers DE_SHORT_BUFFER; no other call sees it. */
 const char *de_version(void);
 
 enum {
@@ -99,7 +99,8 @@ enum {
     DE_ENTRY_NAN = 11,      /* a new candidate would have an entry that is NaN */
     /* Of saved files alone; docs/SAVED.md has both checks word by word. */
     DE_BAD_FILE = 12,    /* empty, no multiple of 32 bytes, a broken chain; in saving: the lent memory is too short */
-    DE_BAD_CONTENT = 13, /* what the file holds, or the state that is to be saved, is none that a sampler can have */
+    DE_BAD_CONTENT = 13, /* what the file holds, or the state that is to be saved, is none that a sampler can have; in
+                          * saving also: the state's bounds rule is DE_MIDPOINT, for which a file has no place yet */
     /* Of metrics exports alone. */
     DE_MALFORMED_LINE = 14, /* a line is malformed; `line` is the number of the first such line, from 1 */
     DE_SHORT_HISTORY = 15   /* every line is well, and the lent history has fewer places than there are entries */
@@ -110,18 +111,25 @@ const char *de_refusal_text(uint64_t refusal);
 
 enum { DE_RAND1 = 0, DE_BEST1 = 1, DE_CURRENT_TO_BEST1 = 2 };
 
+/* The bounds rule: what a mutant's entry beyond a bound becomes in a candidate. DE_CLAMP: the bound itself, so that
+ * candidates pile up there. DE_MIDPOINT: it is drawn in, to half the sum of the parent's entry and that bound (the sum
+ * is rounded, then its half), and then clamped. An entry that a candidate has from its parent is clamped under both.
+ * docs/GUIDE.md shows which to choose. */
+enum { DE_CLAMP = 0, DE_MIDPOINT = 1 };
+
 typedef struct DeSetup {
     double mutation_factor; /* F, 0 to 2 */
     double crossover_rate;  /* CR, 0 to 1 */
     uint64_t strategy;      /* DE_RAND1, DE_BEST1 or DE_CURRENT_TO_BEST1 */
     uint64_t sized;         /* DE_YES: population_size is given; DE_NO: it follows from the dimensions */
     uint64_t population_size;
-    uint64_t seed; /* nothing is seeded at random */
+    uint64_t seed;        /* nothing is seeded at random */
+    uint64_t bounds_rule; /* DE_CLAMP or DE_MIDPOINT: 0, as where no initializer names the field, is clamp */
 } DeSetup;
 
 /* The Rust's defaults, and seed 0. To be started from: a zeroed set-up is accepted too, and has F = 0 and CR = 0. */
 #define DE_SETUP_DEFAULT                                                                                               \
-    { 0.8, 0.9, DE_RAND1, DE_NO, 0, 0 }
+    { 0.8, 0.9, DE_RAND1, DE_NO, 0, 0, DE_CLAMP }
 
 /* Fields that the kind has no use for are not read. */
 typedef struct DeDistribution {
@@ -238,7 +246,8 @@ typedef struct DeRead {
 } DeRead;
 
 /* Sets up *state: DE_MADE; or DE_REFUSED by DE_MUTATION_FACTOR, DE_CROSSOVER_RATE or DE_POPULATION_SIZE, the first that
- * applies; or DE_UNKNOWN. Unless it is DE_MADE, *state is as it was. */
+ * applies; or DE_UNKNOWN where `strategy`, `sized` or `bounds_rule` names no case. Unless it is DE_MADE, *state is as
+ * it was. */
 DeAnswer de_new(DeState *state, DeSetup setup);
 
 /* The next setting of a trial, the dimensions in the order in which the first trial asked for them. A setting of the
@@ -270,14 +279,14 @@ DeAnswer de_slot_setting(const DeState *state, uint64_t slot, uint64_t dimension
 
 /* Writes the whole state as a saved file (docs/SAVED.md), so that a campaign goes on after a restart: DE_SAVED with the
  * file's length, at most DE_MAX_FILE; no byte past that length is touched. Or DE_REFUSED: by DE_BAD_CONTENT where the
- * state is none that a sampler can have, then by DE_BAD_FILE where `room` is less than the length; nothing is written
- * then. Equal states have equal bytes. */
+ * state is none that a sampler can have, or its bounds rule is DE_MIDPOINT, for which a file has no place yet; then by
+ * DE_BAD_FILE where `room` is less than the length; nothing is written then. Equal states have equal bytes. */
 DeFile de_save(const DeState *state, uint8_t *file, size_t room);
 
 /* Reads a saved file: DE_RESTORED, and *state is the state that was saved, with 0 in each field that a kind or flag has
- * no use for; or DE_REFUSED by DE_BAD_FILE, then by DE_BAD_CONTENT, and *state is as it was, bit for bit. What *state
- * holds before is never read, as in de_new. The history is no part of a file: it stays the caller's, and docs/GUIDE.md
- * says what it must hold after a restart. */
+ * no use for and bounds rule DE_CLAMP; or DE_REFUSED by DE_BAD_FILE, then by DE_BAD_CONTENT, and *state is as it was,
+ * bit for bit. What *state holds before is never read, as in de_new. The history is no part of a file: it stays the
+ * caller's, and docs/GUIDE.md says what it must hold after a restart. */
 DeFile de_restore(DeState *state, const uint8_t *file, size_t length);
 
 /* Reads a metrics export into a history that de_sample can be lent: DE_READ with the count of entries, each of which is

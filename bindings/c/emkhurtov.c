@@ -4,11 +4,11 @@
 
 /* On x86-64, the only machine that the library is built for, these follow from the header; a compiler that lays out
  * otherwise stops here. */
-_Static_assert(sizeof(DeSetup) == 48 && sizeof(DeDistribution) == 80 && sizeof(DeCandidate) == 160, "layout");
+_Static_assert(sizeof(DeSetup) == 56 && sizeof(DeDistribution) == 80 && sizeof(DeCandidate) == 160, "layout");
 _Static_assert(sizeof(DeMember) == 168 && sizeof(DeTrialProgress) == 16 && sizeof(DeCompletedTrial) == 24, "layout");
-_Static_assert(offsetof(DeState, dims) == 88 && offsetof(DeState, candidates) == 1368, "layout");
-_Static_assert(offsetof(DeState, parents) == 37208 && offsetof(DeState, n_trials) == 64088, "layout");
-_Static_assert(offsetof(DeState, idle) == 67700 && sizeof(DeState) == 67704, "layout");
+_Static_assert(offsetof(DeState, dims) == 96 && offsetof(DeState, candidates) == 1376, "layout");
+_Static_assert(offsetof(DeState, parents) == 37216 && offsetof(DeState, n_trials) == 64096, "layout");
+_Static_assert(offsetof(DeState, idle) == 67708 && sizeof(DeState) == 67712, "layout");
 _Static_assert(sizeof(DeCall) == 88 && sizeof(DeAnswer) == 48 && sizeof(DeLook) == 1328, "layout");
 _Static_assert(sizeof(DeSetting) == 32 && sizeof(DeInternal) == 24 && sizeof(DeFile) == 24, "layout");
 _Static_assert(sizeof(DeRead) == 32, "layout");
@@ -32,7 +32,8 @@ const char *de_refusal_text(uint64_t refusal) {
         [DE_EXTRA_TRIALS] = "a 65th trial beyond the population asks in one generation",
         [DE_ENTRY_NAN] = "a new candidate would have an entry that is NaN",
         [DE_BAD_FILE] = "the file is empty, cut off or its chain is broken, or the lent memory is too short for it",
-        [DE_BAD_CONTENT] = "what the file holds, or the state that is to be saved, is none that a sampler can have",
+        [DE_BAD_CONTENT] = "what the file holds, or the state that is to be saved, is none that a sampler can have, or "
+                           "the state's bounds rule is midpoint",
         [DE_MALFORMED_LINE] = "a line of the metrics export is malformed",
         [DE_SHORT_HISTORY] = "the lent history has fewer places than the metrics export has entries",
     };
@@ -42,7 +43,7 @@ const char *de_refusal_text(uint64_t refusal) {
 /* Each of these says whether the fields of a struct hold the marks that the header says. */
 static int marked_setup(const DeSetup *s) {
     return s->mutation_factor == 1.0 && s->crossover_rate == 2.0 && s->strategy == 3 && s->sized == 4 &&
-           s->population_size == 5 && s->seed == 6;
+           s->population_size == 5 && s->seed == 6 && s->bounds_rule == 7;
 }
 
 static int marked_distribution(const DeDistribution *d) {

@@ -274,7 +274,7 @@ static void pointers(void) {
 /* A campaign that is lent what was read goes on, to the last bit, as one that is lent the same history directly. */
 static void campaign(void) {
     enum { TRIALS = 22 };
-    static const DeSetup setup = {0.8, 0.9, DE_CURRENT_TO_BEST1, DE_YES, 4, 7};
+    static const DeSetup setup = {0.8, 0.9, DE_CURRENT_TO_BEST1, DE_YES, 4, 7, DE_CLAMP};
     static const DeDistribution quota = {.kind = DE_FLOAT, .low = 8.0, .high = 256.0};
     static DeState direct, from_text;
     static DeCompletedTrial told[TRIALS];

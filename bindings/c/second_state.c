@@ -67,7 +67,7 @@ static void candidate_words(const DeCandidate *c, uint64_t *w, const DeState *s)
 void lay(DeState *s, const Lists *l) {
     const uint64_t *one = l->words[1], *two = l->words[2];
     memset(s, 0, sizeof *s);
-    s->setup = (DeSetup){to_double(one[0]), to_double(one[1]), one[2], one[3], one[4], one[5]};
+    s->setup = (DeSetup){to_double(one[0]), to_double(one[1]), one[2], one[3], one[4], one[5], DE_CLAMP};
     s->named = two[0];
     s->first = two[1];
     s->discovered = two[2];
@@ -161,7 +161,8 @@ static int unused_are_fresh(const DeState *s, const Lists *l) {
 }
 
 int words_of(const DeState *s, Lists *l) {
-    if (!names_cases(s)) {
+    /* A file has no place for midpoint yet. */
+    if (!names_cases(s) || s->setup.bounds_rule != DE_CLAMP) {
         return 0;
     }
     list(s, l);

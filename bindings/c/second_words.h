@@ -37,7 +37,8 @@ size_t record_count(const Lists *l, int kind);
 int allowed_counts(const uint64_t *w);
 int judged(const Lists *l);
 
-/* The state of words that are judged; and the words of a state, 0 where it is none that a sampler can have. */
+/* The state of words that are judged; and the words of a state, 0 where it is none that a sampler can have, or none
+ * that a file has a place for. */
 void lay(DeState *s, const Lists *l);
 int words_of(const DeState *s, Lists *l);
 

@@ -1,4 +1,4 @@
-/* The states that the tests of saved files start from: those of a campaign, call after call. */
+/* The states that the tests of saved files and of bounds rules start from: those of a campaign, call after call. */
 #ifndef STATES_H
 #define STATES_H
 
@@ -43,12 +43,16 @@ static double walk_value(uint64_t trial) {
 }
 
 /* `size` 0 is none. */
-static void walk_begin(Walk *w, uint64_t strategy, uint64_t size, uint64_t d, uint64_t lag) {
-    DeSetup setup = {0.8, 0.9, strategy, size != 0, size, 5 + 100 * d};
+static void walk_begin_by(Walk *w, uint64_t rule, uint64_t strategy, uint64_t size, uint64_t d, uint64_t lag) {
+    DeSetup setup = {0.8, 0.9, strategy, size != 0, size, 5 + 100 * d, rule};
     w->d = d;
     w->lag = lag;
     w->trial = w->asked = w->told = 0;
     EXPECT(de_checked_new(&w->state, sizeof w->state, &setup).kind == DE_MADE);
+}
+
+static inline void walk_begin(Walk *w, uint64_t strategy, uint64_t size, uint64_t d, uint64_t lag) {
+    walk_begin_by(w, DE_CLAMP, strategy, size, d, lag);
 }
 
 static DeCall walk_call(const Walk *w) {
@@ -71,7 +75,7 @@ static void walk_on(Walk *w) {
 }
 
 /* The largest state there is: 160 slots, 16 dimensions, a closed generation and 224 open trials. */
-static void walk_to_largest(Walk *w) {
+static inline void walk_to_largest(Walk *w) {
     walk_begin(w, DE_CURRENT_TO_BEST1, DE_MAX_POPULATION, DE_MAX_DIMENSIONS, 0);
     while (w->state.closed == 0) {
         walk_on(w);

@@ -6,7 +6,10 @@ use Rattle.distribution.specs.declared.Distribution.{Distribution}
 use Rattle.distribution.specs.declared.Distribution.TheVariants as D
 use Rattle.distribution.specs.declared.FloatDistribution.{FloatDistribution}
 use Rattle.distribution.specs.declared.IntDistribution.{IntDistribution}
+use Rattle.evolution.specs.BoundsRule.{rule_number, rule_from}
 use Rattle.evolution.specs.Strategy.{strategy_number, strategy_from}
+use Rattle.evolution.specs.declared.BoundsRule.{BoundsRule}
+use Rattle.evolution.specs.declared.BoundsRule.TheVariants.{Midpoint}
 use Rattle.evolution.specs.declared.DEStrategy.{DEStrategy}
 use Rattle.evolution.specs.declared.DEStrategy.TheVariants.{CurrentToBest1}
 use Rattle.evolution.specs.declared.Setup.{Setup}
@@ -22,6 +25,10 @@ use Rattle.edge.specs.declared.flat.Opened.{Opened}
 abbrev pub strategy_of : ℕ → DEStrategy
 strategy_of k = unwrap_or (strategy_from k) CurrentToBest1
 
+-- 0 clamp, 1 midpoint; any other number is judged by `known_setup` before it is read
+abbrev pub rule_of : ℕ → BoundsRule
+rule_of k = unwrap_or (rule_from k) Midpoint
+
 -- what there may be: a flag, 0 where there is none and 1 where there is, and the value beside it
 abbrev pub option_of : {A : Type 0} → ℕ → A → Option A
 option_of set x = cond (eqb set 0) None (Some x)
@@ -34,6 +41,7 @@ setup_of s =
       strategy = strategy_of s.strategy;
       population_size = option_of s.sized s.population_size;
       seed = s.seed;
+      bounds_rule = rule_of s.bounds_rule;
     }
 
 abbrev pub float_of : DeDistribution → FloatDistribution
@@ -91,6 +99,7 @@ flat_setup S =
       sized = bit (is_some S.population_size);
       population_size = unwrap_or S.population_size 0;
       seed = S.seed;
+      bounds_rule = rule_number S.bounds_rule;
     }
 
 -- kind, doubles, whole numbers, scale, step, choices

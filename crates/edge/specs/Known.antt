@@ -16,7 +16,7 @@ abbrev pub named : {A : Type 0} → Bool → A → Result A Unnamed
 named known x = cond known (Ok x) (Err (record {}))
 
 unfoldable pub known_setup : DeSetup → Bool
-known_setup s = leb s.strategy 2 && leb s.sized 1
+known_setup s = leb s.strategy 2 && leb s.sized 1 && leb s.bounds_rule 1
 
 -- a choice has neither scale nor step
 unfoldable pub known_distribution : DeDistribution → Bool

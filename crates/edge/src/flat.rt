@@ -3,7 +3,7 @@
 ghost use Rattle.std.specs.Prelude.{◌≡◌, map, eqb, leb};
 ghost use Rattle.distribution.specs.declared.Refusal.TheVariants.{StateNotSound};
 ghost use Rattle.ledger.specs.Words.{all};
-ghost use Rattle.edge.specs.Flat.{strategy_of, option_of, setup_of, distribution_of, dim_of, open_with};
+ghost use Rattle.edge.specs.Flat.{strategy_of, rule_of, option_of, setup_of, distribution_of, dim_of, open_with};
 ghost use Rattle.edge.specs.Known.{named, known_setup, known_distribution, opened_in};
 
 use candidates::Candidate;
@@ -11,10 +11,11 @@ use distribution::{
     CategoricalDistribution, DimensionInfo, Distribution, FloatDistribution, IntDistribution,
     Refusal,
 };
-use evolution::{DEStrategy, Member, Setup};
+use evolution::{BoundsRule, DEStrategy, Member, Setup};
 use state::{State, TrialProgress};
 
-// strategy: 0 rand1, 1 best1, 2 current-to-best1. sized: 0 no size is set, 1 population_size is.
+// strategy: 0 rand1, 1 best1, 2 current-to-best1. sized: 0 no size is set, 1 population_size is. bounds_rule: 0 clamp, 1 midpoint; it
+// stands last, so that a set-up that C fills in by position, or with zeros behind what it names, has clamp.
 #[repr(C)]
 #[derive(Clone, Copy)]
 pub struct DeSetup {
@@ -24,6 +25,7 @@ pub struct DeSetup {
     pub sized: u64,
     pub population_size: u64,
     pub seed: u64,
+    pub bounds_rule: u64,
 }
 
 // kind: 1 float, 2 int, 3 choice. log_scale and stepped: 0 or 1. Fields that the kind does not use are not read.
@@ -101,6 +103,13 @@ pub fn open_strategy(strategy: u64) -> Result<DEStrategy, Unnamed>
     DEStrategy::from_number(strategy).ok_or(Unnamed)
 }
 
+// The bounds rule that C's number stands for, likewise.
+fn open_rule(rule: u64) -> Result<BoundsRule, Unnamed>
+    ensures { result ≡ named (leb rule 1) (rule_of rule) }
+{
+    BoundsRule::from_number(rule).ok_or(Unnamed)
+}
+
 impl TryFrom<DeSetup> for Setup {
     type Error = Unnamed;
 
@@ -114,6 +123,7 @@ impl TryFrom<DeSetup> for Setup {
             strategy: open_strategy(s.strategy)?,
             population_size: option(s.sized, s.population_size)?,
             seed: s.seed,
+            bounds_rule: open_rule(s.bounds_rule)?,
         })
     }
 }

@@ -19,6 +19,7 @@ impl From<Setup> for DeSetup {
             sized: u64::from(s.population_size.is_some()),
             population_size: s.population_size.unwrap_or(0),
             seed: s.seed,
+            bounds_rule: s.bounds_rule.number(),
         }
     }
 }

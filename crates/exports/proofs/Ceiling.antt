@@ -50,7 +50,8 @@ unfolding known_with known_setup
 known-strategy f k =
     let flags = (and_parts (known_setup f.setup && leb f.named 1 && leb f.discovered 1) _ k).0 in
     let named = (and_parts (known_setup f.setup && leb f.named 1) _ flags).0 in
-    (and_parts (leb f.setup.strategy 2) _ (and_parts (known_setup f.setup) _ named).0).0
+    let numbers = (and_parts (leb f.setup.strategy 2 && leb f.setup.sized 1) _ (and_parts (known_setup f.setup) _ named).0).0 in
+    (and_parts (leb f.setup.strategy 2) _ numbers).0
 
 -- ---- THE THEOREMS
 

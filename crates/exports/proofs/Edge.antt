@@ -25,12 +25,15 @@ use Rattle.state.specs.declared.State.{State}
 use Rattle.state.proofs.Flags.{and-true}
 use Rattle.state.proofs.Laid.{back}
 use Rattle.de.specs.Sample.{sample_of}
+use Rattle.evolution.specs.BoundsRule.{rule_number}
 use Rattle.evolution.specs.Strategy.{strategy_number}
+use Rattle.evolution.specs.declared.BoundsRule.{BoundsRule}
+use Rattle.evolution.specs.declared.BoundsRule.TheVariants.{Clamp, Midpoint}
 use Rattle.edge.specs.declared.answers.DeCall.{DeCall}
 use Rattle.edge.specs.declared.flat.DeState.{DeState}
 use Rattle.edge.specs.declared.trial.DeCompletedTrial.{DeCompletedTrial}
 use Rattle.edge.specs.Trial.{known_history, trial_in, trial_of, flat_trial}
-use Rattle.edge.specs.Flat.{bit, strategy_of, option_of, setup_of, flat_setup, flat_float, flat_int, distribution_of, flat_distribution, dim_of, flat_dim, open_with, open_of, flat_of}
+use Rattle.edge.specs.Flat.{bit, strategy_of, rule_of, option_of, setup_of, flat_setup, flat_float, flat_int, distribution_of, flat_distribution, dim_of, flat_dim, open_with, open_of, flat_of}
 use Rattle.edge.specs.Known.{known_setup, known_distribution, known_with, known_state}
 use Rattle.edge.specs.declared.answers.DeAnswer.{DeAnswer}
 use Rattle.edge.specs.Answers.{bare_answer, unknown, answered, settled_of, told}
@@ -43,6 +46,10 @@ pub strategy-back : (t : DEStrategy) → strategy_of (strategy_number t) ≡ t
 strategy-back Rand1 = refl
 strategy-back Best1 = refl
 strategy-back CurrentToBest1 = refl
+
+rule-back : (t : BoundsRule) → rule_of (rule_number t) ≡ t
+rule-back Clamp = refl
+rule-back Midpoint = refl
 
 option-back : {A : Type 0} (z : Option A) (d : A) → option_of (bit (is_some z)) (unwrap_or z d) ≡ z
 option-back None d = refl
@@ -57,6 +64,7 @@ setup-back S =
       strategy = strategy-back S.strategy i;
       population_size = option-back S.population_size 0 i;
       seed = S.seed;
+      bounds_rule = rule-back S.bounds_rule i;
     }
 
 float_back : (a b : Float) (l : Bool) (s : Option Float)
@@ -102,13 +110,17 @@ strategy-known Rand1 = refl
 strategy-known Best1 = refl
 strategy-known CurrentToBest1 = refl
 
+rule-known : (t : BoundsRule) → leb (rule_number t) 1 ≡ true
+rule-known Clamp = refl
+rule-known Midpoint = refl
+
 bit-known : (b : Bool) → leb (bit b) 1 ≡ true
 bit-known true = refl
 bit-known false = refl
 
 pub setup-known : (S : Setup) → known_setup (flat_setup S) ≡ true
 unfolding known_setup flat_setup
-setup-known S = and-true (strategy-known S.strategy) (bit-known (is_some S.population_size))
+setup-known S = and-true (and-true (strategy-known S.strategy) (bit-known (is_some S.population_size))) (rule-known S.bounds_rule)
 
 float_known : (a b : Float) (l : Bool) (s : Option Float) → known_distribution (flat_float (record { low = a; high = b; log_scale = l; step = s })) ≡ true
 unfolding known_distribution

@@ -10,6 +10,7 @@ use mir.Val.{Val}
 use denote.Laws.{Is}
 use lib.ListN.{length, take, drop}
 use Rattle.distribution.specs.declared.Refusal.TheVariants.{StateNotSound}
+use Rattle.evolution.specs.BoundsRule.{rule_number}
 use Rattle.state.specs.declared.State.{State}
 use Rattle.de.specs.Sample.{sample_of}
 use Rattle.saved.specs.Restore.{taken, state_read, restore_of}
@@ -17,11 +18,12 @@ use Rattle.saved.specs.Save.{save_of, saved_in}
 use Rattle.saved.specs.declared.FileRefusal.TheVariants.{BadContent}
 use Rattle.saved.specs.declared.Restored.{Restored}
 use Rattle.saved.proofs.Contracts.{past-untouched, refused-untouched}
+use Rattle.saved.proofs.Place.{midpoint-unsaved, read-clamp}
 use Rattle.saved.proofs.Survives.{survives}
 use Rattle.edge.specs.contracts.flat.DeState as F
 use Rattle.edge.specs.Answers.{settled_of, told}
 use Rattle.files.specs.File.{refused_file, saved_answer, save_answer, save_file, restored_answer}
-use Rattle.edge.specs.Flat.{open_of, flat_of, distribution_of}
+use Rattle.edge.specs.Flat.{rule_of, setup_of, open_with, open_of, flat_setup, flat_of, distribution_of}
 use Rattle.edge.specs.Held.{held_at, held_by, held_answer}
 use Rattle.edge.specs.Known.{known_state, opened_state}
 use Rattle.edge.specs.Look.{look_at, look_by}
@@ -165,3 +167,22 @@ save-refuses f file e = go (known_state f) (save_of (open_of f) (length file)) r
 -- a refused restore call leaves the memory as it was, and a refused save call the lent file
 pub library-refuses : (f g : DeState) (file bytes : List ℕ) → ((restore_answer bytes).kind ≡ 0 → restore_state g bytes ≡ g) × ((save_answer f (length file)).kind ≡ 0 → save_file f file ≡ file)
 library-refuses f g file bytes = (restore-refuses g bytes, save-refuses f file)
+
+-- "the saved file has no place for midpoint yet" (document 02, W7): a save call of such a memory is refused by 13 and writes nothing, whatever file is lent
+pub library-midpoint-unsaved : (f : DeState) (file : List ℕ) → f.setup.bounds_rule ≡ 1 → (save_answer f (length file) ≡ refused_file BadContent) × (save_file f file ≡ file)
+unfolding save_answer save_file setup_of open_with
+library-midpoint-unsaved f file e = go (known_state f) (midpoint-unsaved (open_of f) file (ap rule_of e))
+  where
+    go : (b : Bool) → (save_of (open_of f) (length file) ≡ Err BadContent) × (saved_in (open_of f) file ≡ file)
+        → (cond b (saved_answer (save_of (open_of f) (length file))) (refused_file BadContent) ≡ refused_file BadContent) × (cond b (saved_in (open_of f) file) file ≡ file)
+    go true u = (ap saved_answer u.0, u.1)
+    go false u = (refl, refl)
+
+-- and what a restore call gives has clamp
+pub library-read-clamp : (g : DeState) (bytes : List ℕ) → (restore_answer bytes).kind ≡ 2 → (restore_state g bytes).setup.bounds_rule ≡ 0
+unfolding restore_answer restore_state flat_of flat_setup
+library-read-clamp g bytes e = go (state_read bytes) refl e
+  where
+    go : (r : Result State FileRefusal) → state_read bytes ≡ r → (restored_answer r).kind ≡ 2 → (stored_over g r).setup.bounds_rule ≡ 0
+    go (Ok s) q w = ap rule_number (read-clamp bytes s q)
+    go (Err why) q w = absurd (omega arith)

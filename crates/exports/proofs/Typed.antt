@@ -24,15 +24,18 @@ use Rattle.distribution.specs.contracts.Distribution as DD
 use Rattle.distribution.specs.contracts.FloatDistribution as FD
 use Rattle.distribution.specs.contracts.IntDistribution as ID
 use Rattle.distribution.specs.declared.Distribution.TheVariants.{Float as FloatD, Int as IntD, Categorical}
+use Rattle.evolution.specs.contracts.BoundsRule as BR
 use Rattle.evolution.specs.contracts.DEStrategy as ST
 use Rattle.evolution.specs.contracts.Setup as SU
+use Rattle.evolution.specs.declared.BoundsRule.{BoundsRule}
+use Rattle.evolution.specs.declared.BoundsRule.TheVariants.{Clamp, Midpoint}
 use Rattle.evolution.specs.declared.DEStrategy.{DEStrategy}
 use Rattle.evolution.specs.declared.DEStrategy.TheVariants.{Rand1, Best1, CurrentToBest1}
 use Rattle.state.specs.contracts.State as S
 use Rattle.edge.specs.contracts.flat.DeDistribution as FlatD
 use Rattle.edge.specs.contracts.flat.DeSetup as FlatU
 use Rattle.edge.specs.contracts.flat.DeState as F
-use Rattle.edge.specs.Flat.{strategy_of, setup_of, float_of, int_of, distribution_of, dim_of, open_with, open_of}
+use Rattle.edge.specs.Flat.{strategy_of, rule_of, setup_of, float_of, int_of, distribution_of, dim_of, open_with, open_of}
 use Rattle.edge.specs.declared.flat.DeDistribution.{DeDistribution}
 use Rattle.edge.specs.declared.flat.DeSetup.{DeSetup}
 use Rattle.edge.specs.declared.flat.DeState.{DeState}
@@ -60,14 +63,20 @@ strategy Rand1 = enum-fits ST.the_type Rand1 [] (tt, (refl, tt))
 strategy Best1 = enum-fits ST.the_type Best1 [] (tt, (refl, tt))
 strategy CurrentToBest1 = enum-fits ST.the_type CurrentToBest1 [] (tt, (refl, tt))
 
+rule : (t : BoundsRule) → Fits BR.the_field t
+rule Clamp = enum-fits BR.the_type Clamp [] (tt, (refl, tt))
+rule Midpoint = enum-fits BR.the_type Midpoint [] (tt, (refl, tt))
+
 pub setup : (u : DeSetup) (vs : List Val) → Is (FlatU.the_field).row ((FlatU.the_field).into u) vs → Fits SU.the_field (setup_of u)
 unfolding setup_of
 setup u vs p =
     let a = p.0 in
     let q = p.1.1 in
     let t = strategy (strategy_of u.strategy) in
+    let r = rule (rule_of u.bounds_rule) in
     let z = option-fits u64 (eqb u.sized 0) u.population_size _ q.1.1.1.1.0 in
-    struct-fits SU.the_type (setup_of u) (a.0, (a.1.0, (t.0 ∷ [], (z.0 ∷ [], a.1.1.1.1.1)))) (q.0, (q.1.0, (t.1, (z.1, q.1.1.1.1.1))))
+    struct-fits SU.the_type (setup_of u) (a.0, (a.1.0, (t.0 ∷ [], (z.0 ∷ [], (a.1.1.1.1.1.0, (r.0 ∷ [], a.1.1.1.1.1.1.1))))))
+    (q.0, (q.1.0, (t.1, (z.1, (q.1.1.1.1.1.0, (r.1, q.1.1.1.1.1.1.1))))))
 
 -- ---- a dimension
 

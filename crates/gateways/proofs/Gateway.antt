@@ -18,6 +18,7 @@ use Rattle.state.specs.Setup.{setup_verdict}
 use Rattle.state.specs.declared.State.{State}
 use Rattle.de.specs.Build.{fresh_state}
 use Rattle.de.specs.Program.{ran}
+use Rattle.kinds.specs.Rows.{has_place}
 use Rattle.kinds.specs.Typed.{TypedSetup}
 use Rattle.saved.specs.File.{file_of}
 use Rattle.saved.specs.Save.{save_of, saved_in}
@@ -108,19 +109,19 @@ module _ (f : DeState) (u : DeSetup) (known : known_setup u ≡ true) (ok : is_o
   abbrev led : List Sent → DeState
   led qs = led_to DeState Sent leaves (new_state f u) qs
 
-  back : (qs : List Sent) → All (λ (q : Sent). TypedCall (meant q)) qs → (lent : List ℕ) → Room lent
+  back : has_place S ≡ true → (qs : List Sent) → All (λ (q : Sent). TypedCall (meant q)) qs → (lent : List ℕ) → Room lent
       → (file : List ℕ) × (saved_file (led qs) lent ≡ Some file) × ((g : DeState) → restored_to g file ≡ Some (led qs))
-  back qs t lent room =
+  back place qs t lent room =
       let h = led-holds (new_state f u) qs new-holds t in
-      let v = reached-savable S ok typed h.state h.reached in
+      let v = reached-savable S ok typed h.state h.reached place in
       (file_of h.state, ap (λ (m : DeState). saved_file m lent) h.is ∙ written h.state v lent room, λ g. read h.state v g ∙ ap Some (sym h.is))
 
-  -- THE THEOREM
-  pub library-one-list : (es : List (Event DeState Sent)) → All GoodEvent es → OneList f u es
-  library-one-list es t =
+  -- THE THEOREM, of a set-up with clamp
+  pub library-one-list : has_place S ≡ true → (es : List (Event DeState Sent)) → All GoodEvent es → OneList f u es
+  library-one-list place es t =
       let qs = surviving DeState Sent es in
       let memory : memory_after f u es ≡ led qs =
-      one_list DeState Sent leaves (λ g. new_state g u) saved_file restored_to (new_state f u) GoodEvent (λ g. new_is g u known ok ∙ sym (new_is f u known ok)) back es t in
+      one_list DeState Sent leaves (λ g. new_state g u) saved_file restored_to (new_state f u) GoodEvent (λ g. new_is g u known ok ∙ sym (new_is f u known ok)) (back place) es t in
       let calls = library-demand3 f u known ok qs in
       record {
         memory = memory;

@@ -35,7 +35,7 @@ ends N blank last a b = set (set (replicate N blank) 0 a) last b
 
 unfoldable pub setup_marks : DeSetup
 unfolding of_int
-setup_marks = record { mutation_factor = real 1; crossover_rate = real 2; strategy = 3; sized = 4; population_size = 5; seed = 6 }
+setup_marks = record { mutation_factor = real 1; crossover_rate = real 2; strategy = 3; sized = 4; population_size = 5; seed = 6; bounds_rule = 7 }
 
 unfoldable pub distribution_marks : DeDistribution
 unfolding of_int

@@ -36,6 +36,7 @@ pub fn setup_marks() -> DeSetup
         sized: 4,
         population_size: 5,
         seed: 6,
+        bounds_rule: 7,
     }
 }
 
