@@ -3,6 +3,7 @@
 use de::build::{DESamplerBuilder, new_state};
 use de::sample::sample_slices;
 use distribution::{Distribution, FloatDistribution};
+use evolution::BoundsRule;
 use state::State;
 
 // Float 0..1.
@@ -34,4 +35,11 @@ pub fn trials(state: State, from: u64, end: u64) -> State {
 pub fn open(seed: u64, k: u64, end: u64) -> State {
     let builder = DESamplerBuilder::new().seed(seed);
     trials(discover(new_state(builder.setup), k), 2, end)
+}
+
+// The same state, its bounds rule midpoint.
+pub fn with_midpoint(state: State) -> State {
+    let mut s = state;
+    s.setup.bounds_rule = BoundsRule::Midpoint;
+    s
 }

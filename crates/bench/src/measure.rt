@@ -1,5 +1,5 @@
 // The figures: at N = 160 with 16 dimensions, at N = 20 with 2, of a long history, and of rounding by itself.
-use crate::campaign::{open, trials};
+use crate::campaign::{open, trials, with_midpoint};
 use crate::closings::best_closing;
 use crate::rounded::best_pass;
 use crate::scan::scan;
@@ -16,6 +16,7 @@ struct Figures {
     copy: u64,
     sample: u64,
     closing: u64,
+    midpoint: u64,
 }
 
 // Of a state with the trials 2 to n + 1 open.
@@ -24,13 +25,16 @@ fn figures_of(rt: &(impl Clock + Print), state: State, n: u64) -> io::Result<Fig
     let copy = best(rt, state, |s| copies(s, 500))?;
     let sample = best(rt, state, |s| trials(s, 2, end))?;
     let closing = best_closing(rt, state, end)?;
+    let midpoint = best_closing(rt, with_midpoint(state), end)?;
     expect(rt, copy.n_trials == n as usize)?;
     expect(rt, sample.n_trials == n as usize)?;
     expect(rt, closing.n_trials == n as usize)?;
+    expect(rt, midpoint.n_trials == n as usize)?;
     Ok(Figures {
         copy: hundredfold(copy.ns, 500),
         sample: hundredfold(sample.ns, n),
         closing: hundredfold(closing.ns, 1),
+        midpoint: hundredfold(midpoint.ns, 1),
     })
 }
 
@@ -39,6 +43,7 @@ fn lines(rt: &impl Print, size: &str, f: Figures) -> io::Result<()> {
     time(rt, "copy", size, f.copy)?;
     time(rt, "sample", size, f.sample)?;
     time(rt, "closing", size, f.closing)?;
+    time(rt, "closing-midpoint", size, f.midpoint)?;
     ratio(rt, "sample/copy", size, f.sample, f.copy)?;
     ratio(rt, "closing/copy", size, f.closing, f.copy)
 }

@@ -9,7 +9,7 @@ use state::State;
 use std::io;
 
 // The trials of these numbers have the slots and these results, all complete; trial `next` closes the generation.
-fn close(state: State, numbers: [u64; 4], results: [f64; 4], next: u64) -> State {
+pub fn close(state: State, numbers: [u64; 4], results: [f64; 4], next: u64) -> State {
     let states = [TrialState::Complete; 4];
     sample_slices(state, unit_interval(), next, &numbers, &results, &states).state
 }

@@ -3,6 +3,7 @@
 #![tactic(auto)]
 
 mod answers;
+mod bounds_rule;
 mod calls;
 mod closings;
 mod dimensions;
@@ -28,5 +29,6 @@ fn main(rt: HostRuntime) -> io::Result<()> {
     sizes::sizes(&rt)?;
     dimensions::dimensions(&rt)?;
     extras::extras(&rt)?;
-    closings::closings(&rt)
+    closings::closings(&rt)?;
+    bounds_rule::bounds_rules(&rt)
 }
