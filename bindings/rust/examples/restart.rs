@@ -102,9 +102,10 @@ impl Campaign {
 
     fn save(&self) -> io::Result<()> {
         let (new, state) = (self.folder.join("state.new"), self.folder.join("state"));
+        let saved = self.sampler.save().map_err(io::Error::other)?;
         let mut file = File::create(&new)?;
         file.write_all(&(self.history.len() as u64).to_le_bytes())?;
-        file.write_all(&self.sampler.save())?;
+        file.write_all(&saved)?;
         file.sync_all()?;
         fs::rename(new, state)
     }
@@ -123,7 +124,7 @@ impl Campaign {
             );
         }
         let least = self.history.iter().fold(f64::INFINITY, |least, t| least.min(t.value));
-        let state = self.sampler.save();
+        let state = self.sampler.save()?;
         table += &format!(
             "\ntrials: {}; least: {least:.3} ms; generations closed: {}; since the least value last became smaller: {}\n",
             self.history.len(),

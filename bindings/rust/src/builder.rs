@@ -1,11 +1,58 @@
-//! The set-up.
+//! The set-up, and its choices.
 
 use crate::ffi;
 use crate::layout;
-use crate::{DEStrategy, Refusal, Sampler};
+use crate::{Refusal, Sampler};
 
-/// The set-up. The defaults are the original's: F = 0.8, CR = 0.9, Rand1, a size that follows from the dimensions; the
-/// seed is 0, since nothing is seeded at random.
+/// How a mutant is made.
+#[non_exhaustive]
+#[derive(Clone, Copy, Debug, Default, PartialEq, Eq)]
+pub enum DEStrategy {
+    /// x1 + F (x2 - x3), of Storn and Price.
+    #[default]
+    Rand1,
+    /// best + F (x1 - x2).
+    Best1,
+    /// x + F (best - x) + F (x1 - x2).
+    CurrentToBest1,
+}
+
+/// The bounds rule: what a mutant's entry beyond a bound becomes in a candidate. An entry that a candidate has from its
+/// parent is clamped under both. docs/GUIDE.md shows which to choose.
+///
+/// ```
+/// use emkhurtov::{BoundsRule, CompletedTrial, Distribution, Refusal, Sampler};
+/// // The best quota is near its limit. How many of 200 trials run exactly at the limit?
+/// let at_the_limit = |rule| {
+///     let quota = Distribution::float(8.0, 256.0);
+///     let mut sampler = Sampler::builder().population_size(8).seed(3).bounds_rule(rule).build()?;
+///     let mut history = Vec::new();
+///     let mut count = 0;
+///     for trial in 0..200 {
+///         let x = sampler.sample(&quota, trial, &history)?.setting.as_f64().expect("a double was asked for");
+///         count += usize::from(x == 256.0);
+///         history.push(CompletedTrial::new(trial, (x - 250.0) * (x - 250.0)));
+///     }
+///     Ok::<_, Refusal>(count)
+/// };
+/// // Of the seeds 0 to 4 this is the worst for clamp: the others have 12 to 22. Midpoint has none with any of them.
+/// assert_eq!(at_the_limit(BoundsRule::Clamp)?, 163);
+/// assert_eq!(at_the_limit(BoundsRule::Midpoint)?, 0);
+/// # Ok::<(), Refusal>(())
+/// ```
+#[non_exhaustive]
+#[derive(Clone, Copy, Debug, Default, PartialEq, Eq)]
+pub enum BoundsRule {
+    /// The bound itself, as in the original: candidates pile up there.
+    #[default]
+    Clamp,
+    /// It is drawn in, to half the sum of the parent's entry and that bound (the sum is rounded, then its half), and
+    /// then clamped. A sampler of this rule cannot be saved yet ([`Sampler::save`](crate::Sampler::save)).
+    Midpoint,
+}
+
+/// The set-up. The defaults are the original's: F = 0.8, CR = 0.9, Rand1, a size that follows from the dimensions, clamp;
+/// the seed is 0, since nothing is seeded at random.
 #[derive(Clone, Copy, Debug)]
 pub struct SamplerBuilder {
     mutation_factor: f64,
@@ -13,6 +60,7 @@ pub struct SamplerBuilder {
     strategy: DEStrategy,
     population_size: Option<u64>,
     seed: u64,
+    bounds_rule: BoundsRule,
 }
 
 impl Default for SamplerBuilder {
@@ -23,6 +71,7 @@ impl Default for SamplerBuilder {
             strategy: DEStrategy::Rand1,
             population_size: None,
             seed: 0,
+            bounds_rule: BoundsRule::Clamp,
         }
     }
 }
@@ -58,6 +107,13 @@ impl SamplerBuilder {
         self
     }
 
+    /// What a mutant's entry beyond a bound becomes. A sampler of [`BoundsRule::Midpoint`] cannot be saved yet
+    /// ([`Sampler::save`]).
+    pub fn bounds_rule(mut self, rule: BoundsRule) -> Self {
+        self.bounds_rule = rule;
+        self
+    }
+
     /// A fresh sampler, or refusal 1, 2 or 3.
     ///
     /// # Panics
@@ -78,6 +134,7 @@ impl SamplerBuilder {
             sized: u64::from(self.population_size.is_some()),
             population_size: self.population_size.unwrap_or(0),
             seed: self.seed,
+            bounds_rule: self.bounds_rule.lent(),
         };
         let mut state = layout::blank_state();
         // SAFETY: the pointer is the box's, initialised, of the layout that was checked above.
@@ -86,6 +143,25 @@ impl SamplerBuilder {
             ffi::MADE => Ok(Sampler { state }),
             ffi::REFUSED => Err(Refusal::numbered(answer.refusal)),
             kind => unreachable!("a set-up is made or refused, and this is kind {kind}"),
+        }
+    }
+}
+
+impl DEStrategy {
+    pub(crate) fn lent(self) -> u64 {
+        match self {
+            DEStrategy::Rand1 => 0,
+            DEStrategy::Best1 => 1,
+            DEStrategy::CurrentToBest1 => 2,
+        }
+    }
+}
+
+impl BoundsRule {
+    pub(crate) fn lent(self) -> u64 {
+        match self {
+            BoundsRule::Clamp => 0,
+            BoundsRule::Midpoint => 1,
         }
     }
 }

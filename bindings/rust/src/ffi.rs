@@ -40,6 +40,7 @@ pub struct DeSetup {
     pub sized: u64,
     pub population_size: u64,
     pub seed: u64,
+    pub bounds_rule: u64,
 }
 
 #[repr(C)]

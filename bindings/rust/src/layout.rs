@@ -9,11 +9,11 @@ use crate::{CompletedTrial, TrialState};
 
 // On x86-64, the only machine that the library is built for.
 const _: () = {
-    assert!(size_of::<DeSetup>() == 48 && size_of::<DeDistribution>() == 80 && size_of::<DeCandidate>() == 160);
+    assert!(size_of::<DeSetup>() == 56 && size_of::<DeDistribution>() == 80 && size_of::<DeCandidate>() == 160);
     assert!(size_of::<DeMember>() == 168 && size_of::<DeTrialProgress>() == 16 && size_of::<CompletedTrial>() == 24);
-    assert!(offset_of!(DeState, dims) == 88 && offset_of!(DeState, candidates) == 1368);
-    assert!(offset_of!(DeState, parents) == 37208 && offset_of!(DeState, n_trials) == 64088);
-    assert!(offset_of!(DeState, idle) == 67700 && size_of::<DeState>() == 67704);
+    assert!(offset_of!(DeState, dims) == 96 && offset_of!(DeState, candidates) == 1376);
+    assert!(offset_of!(DeState, parents) == 37216 && offset_of!(DeState, n_trials) == 64096);
+    assert!(offset_of!(DeState, idle) == 67708 && size_of::<DeState>() == 67712);
     assert!(size_of::<DeCall>() == 88 && size_of::<DeAnswer>() == 48 && size_of::<DeLook>() == 1328);
     assert!(size_of::<DeSetting>() == 32 && size_of::<DeInternal>() == 24 && size_of::<DeFile>() == 24);
     assert!(size_of::<DeRead>() == 32);
@@ -49,7 +49,8 @@ trait Marked {
 impl Marked for DeSetup {
     fn marked(&self) -> bool {
         (self.mutation_factor, self.crossover_rate) == (1.0, 2.0)
-            && [self.strategy, self.sized, self.population_size, self.seed] == [3, 4, 5, 6]
+            && [self.strategy, self.sized, self.population_size] == [3, 4, 5]
+            && [self.seed, self.bounds_rule] == [6, 7]
     }
 }
 
@@ -191,6 +192,12 @@ mod tests {
         assert!(!marks.marked());
         let mut marks = de_marks();
         std::mem::swap(&mut marks.trial.number, &mut marks.trial.state);
+        assert!(!marks.marked());
+        let mut marks = de_marks();
+        std::mem::swap(&mut marks.setup.seed, &mut marks.setup.bounds_rule);
+        assert!(!marks.marked());
+        let mut marks = de_marks();
+        marks.state.setup.bounds_rule = marks.state.named;
         assert!(!marks.marked());
     }
 }

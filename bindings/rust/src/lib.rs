@@ -22,11 +22,14 @@
 //! # Ok::<(), Refusal>(())
 //! ```
 //!
-//! A sampler can be saved after each trial ([`Sampler::save`]) and restored after a restart ([`Sampler::restore`]);
+//! A sampler with clamp can be saved after each trial ([`Sampler::save`]) and restored after a restart ([`Sampler::restore`]);
 //! examples/restart.rs does so. A history can be read from a metrics export ([`CompletedTrial::read_export`]).
 //!
 //! A trial that was killed is told as [`CompletedTrial::failed`], one that was stopped early as
 //! [`CompletedTrial::pruned`].
+//!
+//! Where the best setting lies near a bound, clamping piles trials up on that bound; [`BoundsRule::Midpoint`] draws
+//! them in.
 
 #![deny(missing_docs)]
 
@@ -41,7 +44,7 @@ mod sampler;
 mod saved;
 mod types;
 
-pub use builder::SamplerBuilder;
+pub use builder::{BoundsRule, DEStrategy, SamplerBuilder};
 pub use ceiling::{MAX_DRAWS, draw_ceiling};
 pub use export::ExportError;
 pub use fault::ExportFault;
@@ -49,6 +52,5 @@ pub use refusal::Refusal;
 pub use sampler::{Look, Sampled, Sampler, to_internal, version};
 pub use saved::{FileRefusal, MAX_FILE};
 pub use types::{
-    CategoricalDistribution, CompletedTrial, DEStrategy, Distribution, FloatDistribution, IntDistribution, ParamValue,
-    TrialState,
+    CategoricalDistribution, CompletedTrial, Distribution, FloatDistribution, IntDistribution, ParamValue, TrialState,
 };

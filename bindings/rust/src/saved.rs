@@ -22,7 +22,8 @@ pub const MAX_FILE: usize = 73_120;
 pub enum FileRefusal {
     /// 12: the file is empty, no multiple of 32 bytes, or its chain is broken; in saving, the lent memory is too short.
     BadFile,
-    /// 13: no sound state has the file's records; in saving, the state is not sound.
+    /// 13: no sound state has the file's records; in saving, the state is not sound, or its bounds rule is
+    /// [`BoundsRule::Midpoint`](crate::BoundsRule::Midpoint), for which a file has no place yet.
     BadContent,
 }
 
@@ -51,7 +52,8 @@ impl fmt::Display for FileRefusal {
                 "the file is empty, cut off or its chain is broken, or the lent memory is too short for it"
             }
             FileRefusal::BadContent => {
-                "what the file holds, or the state that is to be saved, is none that a sampler can have"
+                "what the file holds, or the state that is to be saved, is none that a sampler can have, or the \
+                 state's bounds rule is midpoint"
             }
         };
         write!(f, "refusal {}: {why}", self.number())
@@ -61,41 +63,43 @@ impl fmt::Display for FileRefusal {
 impl Error for FileRefusal {}
 
 impl Sampler {
-    /// The whole sampler as a saved file, at most [`MAX_FILE`] bytes. Equal samplers have equal files. The
-    /// history is no part of it.
+    /// The whole sampler as a saved file, at most [`MAX_FILE`] bytes; or [`FileRefusal::BadContent`] where its bounds
+    /// rule is [`BoundsRule::Midpoint`](crate::BoundsRule::Midpoint), for which a file has no place yet. Equal samplers
+    /// have equal files. The history is no part of it.
     ///
-    /// There is nothing to refuse: a sampler's state is made by [`SamplerBuilder::build`](crate::SamplerBuilder::build)
-    /// or [`Sampler::restore`] and changed by [`Sampler::sample`] alone, and each of these leaves a state that a sampler
+    /// Nothing else is refused: a sampler's state is made by [`SamplerBuilder::build`](crate::SamplerBuilder::build) or
+    /// [`Sampler::restore`] and changed by [`Sampler::sample`] alone, and each of these leaves a state that a sampler
     /// can have.
     ///
     /// ```
-    /// use emkhurtov::{Distribution, Sampler};
+    /// use emkhurtov::{BoundsRule, Distribution, FileRefusal, Sampler};
     /// let depth = Distribution::int(1, 64);
     /// let mut sampler = Sampler::builder().seed(7).build()?;
     /// sampler.sample(&depth, 0, &[])?;
-    /// let file = sampler.save();
+    /// let file = sampler.save()?;
     /// let mut restored = Sampler::restore(&file)?;
     /// assert_eq!(restored.sample(&depth, 1, &[]), sampler.sample(&depth, 1, &[]));
+    /// let midpoint = Sampler::builder().bounds_rule(BoundsRule::Midpoint).build()?;
+    /// assert_eq!(midpoint.save(), Err(FileRefusal::BadContent));
     /// # Ok::<(), Box<dyn std::error::Error>>(())
     /// ```
-    pub fn save(&self) -> Vec<u8> {
+    pub fn save(&self) -> Result<Vec<u8>, FileRefusal> {
         let mut file = vec![0; MAX_FILE];
-        match self.save_to(&mut file) {
-            Ok(length) => file.truncate(length),
-            Err(refusal) => unreachable!("a sampler's state is sound and the memory is enough: {refusal}"),
-        }
-        file
+        let length = self.save_to(&mut file)?;
+        file.truncate(length);
+        Ok(file)
     }
 
-    /// Saves into lent memory: the file's length, past which nothing is touched; or [`FileRefusal::BadFile`] where the
-    /// memory is shorter than the file, and nothing is written then.
+    /// Saves into lent memory: the file's length, past which nothing is touched. Or it is refused as in
+    /// [`Sampler::save`], then by [`FileRefusal::BadFile`] where the memory is shorter than the file; nothing is written
+    /// then.
     ///
     /// ```
     /// use emkhurtov::{FileRefusal, MAX_FILE, Sampler};
     /// let sampler = Sampler::builder().build()?;
     /// let mut file = [0; MAX_FILE];
     /// let length = sampler.save_to(&mut file)?;
-    /// assert_eq!(file[..length], sampler.save());
+    /// assert_eq!(file[..length], sampler.save()?);
     /// assert_eq!(sampler.save_to(&mut file[..length - 1]), Err(FileRefusal::BadFile));
     /// # Ok::<(), Box<dyn std::error::Error>>(())
     /// ```
@@ -109,7 +113,8 @@ impl Sampler {
         }
     }
 
-    /// The sampler that was saved: it goes on as that one would have.
+    /// The sampler that was saved: it goes on as that one would have. Its bounds rule is
+    /// [`BoundsRule::Clamp`](crate::BoundsRule::Clamp), as that one's was.
     ///
     /// The history stays the caller's. It must still hold the results of the open generation's trials that were told
     /// before the save; a generation waits for a trial that is not told.
@@ -119,12 +124,12 @@ impl Sampler {
     ///
     /// ```
     /// use emkhurtov::{FileRefusal, Sampler};
-    /// let mut file = Sampler::builder().build()?.save();
+    /// let mut file = Sampler::builder().build()?.save()?;
     /// assert!(Sampler::restore(&file).is_ok());
     /// assert_eq!(Sampler::restore(&file[..file.len() - 1]).err(), Some(FileRefusal::BadFile));
     /// file[2] = 7; // no record is of kind 7
     /// assert_eq!(Sampler::restore(&file).err(), Some(FileRefusal::BadContent));
-    /// # Ok::<(), emkhurtov::Refusal>(())
+    /// # Ok::<(), Box<dyn std::error::Error>>(())
     /// ```
     pub fn restore(file: &[u8]) -> Result<Sampler, FileRefusal> {
         layout::check();

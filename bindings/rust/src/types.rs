@@ -57,19 +57,6 @@ pub enum ParamValue {
     Categorical(u64),
 }
 
-/// How a mutant is made.
-#[non_exhaustive]
-#[derive(Clone, Copy, Debug, Default, PartialEq, Eq)]
-pub enum DEStrategy {
-    /// x1 + F (x2 - x3), of Storn and Price.
-    #[default]
-    Rand1,
-    /// best + F (x1 - x2).
-    Best1,
-    /// x + F (best - x) + F (x1 - x2).
-    CurrentToBest1,
-}
-
 /// The state of an entry of the history: how its trial ended. One that was pruned or that failed is incomplete.
 #[repr(u64)]
 #[derive(Clone, Copy, Debug, PartialEq, Eq)]
@@ -279,15 +266,5 @@ impl ParamValue {
             ParamValue::Categorical(v) => s.choice = v,
         }
         s
-    }
-}
-
-impl DEStrategy {
-    pub(crate) fn lent(self) -> u64 {
-        match self {
-            DEStrategy::Rand1 => 0,
-            DEStrategy::Best1 => 1,
-            DEStrategy::CurrentToBest1 => 2,
-        }
     }
 }

@@ -40,13 +40,13 @@ struct Seen {
 fn seen(s: &Sampler) -> Seen {
     let bytes = s.state_bytes();
     let number = |at: usize| u64::from_ne_bytes(bytes[at..at + 8].try_into().unwrap());
-    let n_trials = number(64088) as usize;
+    let n_trials = number(64096) as usize;
     Seen {
         strategy: number(16),
-        discovered: number(64) == 1,
-        n: number(72),
-        n_dims: number(80),
-        trials: (0..n_trials).map(|i| number(64096 + 16 * i)).collect(),
+        discovered: number(72) == 1,
+        n: number(80),
+        n_dims: number(88),
+        trials: (0..n_trials).map(|i| number(64104 + 16 * i)).collect(),
     }
 }
 

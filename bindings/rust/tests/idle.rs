@@ -111,7 +111,7 @@ fn campaigns_of_few_values() {
                     *result = values[(word >> 33) as usize % values.len()];
                 }
                 largest = largest.max(c.closes(&results));
-                c.sampler = Sampler::restore(&c.sampler.save()).unwrap();
+                c.sampler = Sampler::restore(&c.sampler.save().unwrap()).unwrap();
             }
         }
     }

@@ -186,9 +186,9 @@ fn exports() {
 fn a_restart() {
     let history = [pruned(1, 0.5), failed(2, NAN), complete(3, 7.0), complete(4, 5.0)];
     let mut s = begun();
-    let mut restored = Sampler::restore(&s.save()).unwrap();
+    let mut restored = Sampler::restore(&s.save().unwrap()).unwrap();
     assert_eq!(restored.sample(&depth(), 5, &history), s.sample(&depth(), 5, &history));
-    let restored = Sampler::restore(&restored.save()).unwrap();
+    let restored = Sampler::restore(&restored.save().unwrap()).unwrap();
     assert!(restored.state_bytes() == s.state_bytes());
     assert_eq!(restored.look().unwrap().unwrap().values, [INFINITY, INFINITY, 7.0, 5.0]);
 }

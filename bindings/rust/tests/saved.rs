@@ -26,11 +26,11 @@ fn value(trial: u64) -> f64 {
 
 /// What is saved is restored bit for bit, and saved again as the same bytes: the file.
 fn round_trip(s: &Sampler) -> Vec<u8> {
-    let file = s.save();
+    let file = s.save().unwrap();
     assert!(file.len() % RECORD == 0 && file.len() <= MAX_FILE);
     let restored = Sampler::restore(&file).unwrap();
     assert!(restored.state_bytes() == s.state_bytes());
-    assert!(restored.save() == file);
+    assert!(restored.save().unwrap() == file);
     file
 }
 
@@ -125,7 +125,7 @@ fn running() -> Sampler {
 #[test]
 fn lent_memory() {
     let s = running();
-    let file = s.save();
+    let file = s.save().unwrap();
     let mut lent = vec![0xa5; file.len() + 40];
     for room in [0, 1, file.len() - RECORD, file.len() - 1] {
         assert_eq!(s.save_to(&mut lent[..room]), Err(FileRefusal::BadFile));
@@ -140,7 +140,7 @@ fn lent_memory() {
 #[test]
 fn cut_and_extended_files() {
     let s = running();
-    let mut file = s.save();
+    let mut file = s.save().unwrap();
     for length in 0..file.len() {
         assert_eq!(Sampler::restore(&file[..length]).err(), Some(FileRefusal::BadFile));
     }
@@ -155,7 +155,7 @@ fn cut_and_extended_files() {
 #[test]
 fn reordered_files() {
     let s = running();
-    let file = s.save();
+    let file = s.save().unwrap();
     let records: Vec<&[u8]> = file.chunks(RECORD).collect();
     let n = records.len();
     // Record 0 starts the chain; the others follow from the last to the first, each at every other place.
@@ -168,13 +168,13 @@ fn reordered_files() {
     }
     let restored = Sampler::restore(&other).unwrap();
     assert!(restored.state_bytes() == s.state_bytes());
-    assert!(restored.save() == file);
+    assert!(restored.save().unwrap() == file);
 }
 
 /// Every byte changed in turn: refused, or a sampler that saves as these very bytes.
 #[test]
 fn damaged_files() {
-    let file = running().save();
+    let file = running().save().unwrap();
     let (mut refused, mut restored) = (0, 0);
     for at in 0..file.len() {
         for bit in [0x01, 0x10, 0x80] {
@@ -182,7 +182,7 @@ fn damaged_files() {
             damaged[at] ^= bit;
             match Sampler::restore(&damaged) {
                 Ok(sampler) => {
-                    assert!(sampler.save() == damaged && sampler.look().is_ok());
+                    assert!(sampler.save().unwrap() == damaged && sampler.look().is_ok());
                     restored += 1;
                 }
                 Err(_) => refused += 1,
@@ -203,6 +203,7 @@ fn refusals_say_why() {
     let garbage = Sampler::restore(&[0; RECORD]).unwrap_err();
     assert_eq!(
         garbage.to_string(),
-        "refusal 13: what the file holds, or the state that is to be saved, is none that a sampler can have"
+        "refusal 13: what the file holds, or the state that is to be saved, is none that a sampler can have, or the \
+         state's bounds rule is midpoint"
     );
 }
