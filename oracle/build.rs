@@ -2,7 +2,11 @@
 //! ../shared/docs/src beside the repository, or from the folder that ORACLE_RUST names. Nothing is
 //! changed but that the inner doc lines (`//!`) go, which may not stand in an included file.
 //!
-//! ORACLE_MUTANT=NAME applies the edit of that name in mutants.txt, for oracle/run mutants alone.
+//! For set-ups with midpoint, which the Rust does not have, the functions of de.rs are laid out once more, with a call of
+//! src/midpoint.rs where crossover takes the mutant's entry. Set-ups with clamp never run them.
+//!
+//! ORACLE_MUTANT=NAME applies the edit of that name in mutants.txt, for oracle/run mutants alone, and not to the
+//! functions for midpoint.
 
 use std::path::{Path, PathBuf};
 use std::{env, fs, process};
@@ -15,6 +19,24 @@ const WHOLE: [&str; 5] = [
     "sampler/common.rs",
     "sampler/de.rs",
 ];
+
+/// Where the functions of de.rs begin; the types that they share stand above.
+const FUNCTIONS: &str = "// Helpers\n";
+
+/// The one place of them that midpoint changes: the mutant's entry, where crossover takes it. The draws before it and
+/// the clamping after it stay the Rust's.
+const TAKEN: &str = "\
+                    let val = if use_mutant {
+                        mutant[j]
+                    } else {
+";
+
+const DRAWN_IN: &str = "\
+                    let val = if use_mutant {
+                        let dim_bounds = continuous_dim_bounds(&state.dimensions, j);
+                        crate::midpoint::drawn_in(mutant[j], state.population[i][j], dim_bounds)
+                    } else {
+";
 
 fn main() {
     let home = PathBuf::from(env::var("CARGO_MANIFEST_DIR").unwrap());
@@ -38,6 +60,11 @@ fn main() {
         }
         write(&out, file, &text);
     }
+    write(
+        &out,
+        "sampler/midpoint.rs",
+        &for_midpoint(&read(&rust, "sampler/de.rs")),
+    );
     let sampler = read(&rust, "sampler/mod.rs");
     write(&out, "sampler/trait.rs", &item(&sampler, "pub trait Sampler"));
     // The stand-in of src/lib.rs has the two fields that de.rs reads: see that they are still so.
@@ -70,6 +97,31 @@ fn write(out: &Path, file: &str, text: &str) {
     let path = out.join(file);
     fs::create_dir_all(path.parent().unwrap()).unwrap();
     fs::write(path, text).unwrap();
+}
+
+/// The functions of de.rs for midpoint, over the types of the first copy.
+fn for_midpoint(text: &str) -> String {
+    let (_, functions) = text.split_at(only_place(text, FUNCTIONS));
+    let drawn_in = replaced(functions, TAKEN, DRAWN_IN);
+    replaced(
+        &drawn_in,
+        "impl Sampler for DESampler {",
+        "impl Sampler for Midpoint<'_> {",
+    )
+}
+
+fn replaced(text: &str, old: &str, new: &str) -> String {
+    let (head, tail) = text.split_at(only_place(text, old));
+    format!("{head}{new}{}", &tail[old.len()..])
+}
+
+/// Where a text stands that must stand once.
+fn only_place(text: &str, old: &str) -> usize {
+    let places: Vec<usize> = text.match_indices(old).map(|(at, _)| at).collect();
+    match places[..] {
+        [at] => at,
+        _ => stop(&format!("in sampler/de.rs `{old}` stands {} times", places.len())),
+    }
 }
 
 fn without_inner_docs(text: &str) -> String {

@@ -1,7 +1,7 @@
 //! The answers' words: settings, looks and states.
 
+use crate::campaign::Campaign;
 use crate::counts::Counts;
-use crate::driver::Campaign;
 use crate::param::ParamValue;
 use crate::sampler::de::{Probe, Vector};
 use crate::text;

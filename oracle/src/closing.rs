@@ -3,11 +3,12 @@
 
 use std::collections::{HashMap, HashSet};
 
+use crate::campaign::Campaign;
 use crate::counts::Counts;
 use crate::distribution::Distribution;
 use crate::draws;
-use crate::driver::Campaign;
 use crate::history::History;
+use crate::midpoint::BoundsRule;
 use crate::param::ParamValue;
 use crate::sampler::CompletedTrial;
 use crate::sampler::de::{DEStrategy, Probe};
@@ -112,6 +113,7 @@ impl Before {
         counts.closings += 1;
         counts.closings_first += u64::from(first);
         counts.closings_later += u64::from(!first);
+        counts.closings_midpoint += u64::from(c.rule == BoundsRule::Midpoint);
         counts.closings_160 += u64::from(p.size() == 160);
         counts.closings_cleared += u64::from(c.cleared);
         match c.strategy {

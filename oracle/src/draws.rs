@@ -1,9 +1,10 @@
 //! Walks once more through the draws of a closing, from the word that it met, by document 01's steps 3 and 4: for
 //! counting, and as a check that the generator's word after the call is the one that those steps leave.
 
+use crate::campaign::Campaign;
 use crate::counts::Counts;
 use crate::distribution::Distribution;
-use crate::driver::Campaign;
+use crate::midpoint::BoundsRule;
 use crate::sampler::de::{DEStrategy, Probe};
 
 /// A closing with continuous dimensions answers from a candidate, so all of its draws are those of the new ones.
@@ -23,13 +24,25 @@ pub fn count(p: &Probe<'_>, c: &Campaign, word: u64, counts: &mut Counts) {
             }
         }
         let own = rng.usize(0..bounds.len());
-        for j in (0..bounds.len()).filter(|&j| j != own) {
-            let unit = rng.f64();
-            counts.unit_below += u64::from(unit < c.cr);
-            counts.unit_above += u64::from(unit > c.cr);
-            if unit == c.cr {
-                let entry = mutant(p, c, &taken, j).clamp(bounds[j].0, bounds[j].1);
-                counts.unit_equal += u64::from(entry != p.parent(slot).entries[j]);
+        for (j, &bounds) in bounds.iter().enumerate() {
+            let parent = p.parent(slot).entries[j];
+            // So half the sum is within them too, clamped or not, and drawing in a parent's own entry would change none.
+            let within = bounds.0 <= parent && parent <= bounds.1;
+            assert!(c.rule == BoundsRule::Clamp || within, "a parent within its bounds");
+            if j != own {
+                let unit = rng.f64();
+                counts.unit_below += u64::from(unit < c.cr);
+                counts.unit_above += u64::from(unit > c.cr);
+                if unit == c.cr {
+                    let entry = c.rule.judged(mutant(p, c, &taken, j), parent, bounds);
+                    counts.unit_equal += u64::from(entry != parent);
+                }
+                if unit >= c.cr {
+                    continue;
+                }
+            }
+            if c.rule == BoundsRule::Midpoint {
+                count_drawn_in(mutant(p, c, &taken, j), parent, bounds, counts);
             }
         }
         for dim in 0..p.dims() {
@@ -39,6 +52,22 @@ pub fn count(p: &Probe<'_>, c: &Campaign, word: u64, counts: &mut Counts) {
         }
     }
     assert_eq!(rng.word(), p.word(), "the draws of a closing");
+}
+
+/// A mutant's entry that is taken under midpoint, and whether another reading of document 02 would have changed it.
+fn count_drawn_in(mutant: f64, parent: f64, (low, high): (f64, f64), counts: &mut Counts) {
+    let judged = |rule: BoundsRule| rule.judged(mutant, parent, (low, high));
+    let entry = judged(BoundsRule::Midpoint);
+    let half = |bound: f64| (parent + bound) / 2.0;
+    counts.drawn_low += u64::from(mutant < low);
+    counts.drawn_high += u64::from(mutant > high);
+    counts.drawn_otherwise += u64::from(entry != judged(BoundsRule::Clamp));
+    counts.drawn_on_bound += u64::from((mutant == low || mutant == high) && half(mutant) != mutant);
+    if mutant < low || mutant > high {
+        let bound = mutant.clamp(low, high);
+        counts.drawn_halves += u64::from(parent / 2.0 + bound / 2.0 != entry);
+        counts.drawn_difference += u64::from(bound + (parent - bound) / 2.0 != entry);
+    }
 }
 
 /// Step 3's entry: `taken` is the slot and then its indices.

@@ -1,19 +1,18 @@
-//! Runs a script through the Rust: one line in, its answer out. The two counters of `look` and the refusals are
-//! written from documents 01 and 02, since the Rust has neither.
+//! Runs a script through the Rust: one line in, its answer out. The two counters of `look`, the refusals and midpoint are
+//! written from documents 01 and 02, since the Rust has none of them.
 
-use std::collections::HashSet;
 use std::io::{self, BufRead, Write};
 
 use crate::answers;
+use crate::campaign::Campaign;
 use crate::closing::Before;
 use crate::counts::Counts;
 use crate::distribution::Distribution;
 use crate::history::History;
 use crate::judge;
 use crate::kept::Kept;
-use crate::reader::Plain;
-use crate::sampler::Sampler;
-use crate::sampler::de::{DESampler, DEStrategy, Probe};
+use crate::midpoint::{BoundsRule, Reading};
+use crate::sampler::de::{DESampler, Probe};
 use crate::script::{self, Command, SetUp};
 use crate::text;
 
@@ -21,73 +20,12 @@ use crate::text;
 #[derive(Debug)]
 pub struct Malformed;
 
-/// A sampler that has been set up, and what the driver keeps beside it.
-pub struct Campaign {
-    pub sampler: DESampler,
-    pub strategy: DEStrategy,
-    pub size: Option<u64>,
-    pub f: f64,
-    pub cr: f64,
-    pub seed: u64,
-    /// Closed generations, stopping at 4,294,967,295.
-    pub closed: u32,
-    /// Those since the least value of all slots last became numerically smaller, likewise.
-    pub idle: u32,
-    /// The least of the results that all its closings counted; a file has no results.
-    pub counted: Option<f64>,
-    /// Trials that were open once, for counting alone.
-    pub seen: HashSet<u64>,
-    /// The history was cleared since the last closing, for counting alone.
-    pub cleared: bool,
-    /// It comes from a kept file, for counting alone.
-    pub restored: bool,
-}
-
-impl Campaign {
-    /// A sampler that has been set up.
-    fn new(sampler: DESampler, setup: &SetUp) -> Self {
-        Self {
-            sampler,
-            strategy: setup.strategy,
-            size: setup.size,
-            f: setup.f,
-            cr: setup.cr,
-            seed: setup.seed,
-            closed: 0,
-            idle: 0,
-            counted: Some(f64::INFINITY),
-            seen: HashSet::new(),
-            cleared: false,
-            restored: false,
-        }
-    }
-
-    /// A sampler in a state that was read from a file.
-    pub fn of(plain: Plain) -> Self {
-        let setup = plain.setup.clone();
-        Self {
-            closed: plain.closed,
-            idle: plain.idle,
-            counted: None,
-            ..Self::new(DESampler::of(plain), &setup)
-        }
-    }
-
-    /// The sampler copied, and everything that is kept beside it.
-    pub fn copy(&self) -> Self {
-        Self {
-            sampler: self.sampler.copy(),
-            seen: self.seen.clone(),
-            ..*self
-        }
-    }
-}
-
 /// What is kept from line to line.
 #[derive(Default)]
 pub struct Driver {
     campaign: Option<Campaign>,
     pub(crate) history: History,
+    pub(crate) reading: Reading,
     kept: Kept,
     line: u64,
     pub counts: Counts,
@@ -215,6 +153,7 @@ impl Driver {
         self.campaign = Some(Campaign::new(builder.build(), setup));
         let c = &mut self.counts;
         c.sections += 1;
+        c.rule_midpoint += u64::from(setup.rule == BoundsRule::Midpoint);
         match setup.size {
             None => c.size_unset += 1,
             Some(0..=3) => c.size_raised += 1,
@@ -235,6 +174,14 @@ impl Driver {
 
     fn save(&mut self, out: &mut Vec<u8>) -> Result<(), Malformed> {
         let c = self.campaign.as_ref().ok_or(Malformed)?;
+        if !self.reading.has_place(c.rule) {
+            self.counts.saves_midpoint += 1;
+            if !self.reading.file_stays() {
+                self.kept = Kept::default();
+            }
+            self.refuse(13, out);
+            return Ok(());
+        }
         let length = self.kept.save(c);
         let p = c.sampler.probe();
         self.counts.saves += 1;
@@ -258,6 +205,9 @@ impl Driver {
                 self.counts.restores_unsaved += u64::from(!known);
                 self.counts.restores_stateless += u64::from(self.campaign.is_none());
                 self.counts.restores_moved += u64::from(!self.kept.is_canonical());
+                let before = self.campaign.as_ref().map_or(BoundsRule::Clamp, |before| before.rule);
+                self.counts.restores_midpoint += u64::from(before == BoundsRule::Midpoint);
+                c.rule = self.reading.restored(before);
                 c.restored = true;
                 self.campaign = Some(c);
                 out.extend_from_slice(b"restored\n");
@@ -278,7 +228,9 @@ impl Driver {
         drop(p);
         self.counts.restarted += u64::from(c.restored);
         self.counts.nan_answered += u64::from(self.history.has_accepted_nan());
-        let answer = c.sampler.sample(d, trial, self.history.lent());
+        self.counts.midpoint += u64::from(c.rule == BoundsRule::Midpoint);
+        self.reading.take_effect();
+        let answer = c.sample(d, trial, self.history.lent());
         before.compare(c, d, trial, &answer, &self.history, &mut self.counts);
         let draws = c.sampler.probe().draws() - before.draws;
         answers::setting(&answer, out);

@@ -7,7 +7,11 @@ use crate::generate::exhaustive;
 use crate::generate::stream::{SHORT_FROM, Stream};
 
 /// The parts by hand. A comment `# by hand: refused K: WHY` says what the line after it must answer.
-const BY_HAND: [&str; 2] = [include_str!("../refusals.script"), include_str!("../restarts.script")];
+const BY_HAND: [&str; 3] = [
+    include_str!("../refusals.script"),
+    include_str!("../restarts.script"),
+    include_str!("../midpoint.script"),
+];
 
 /// Before anything else: no file has been kept yet.
 const NO_FILE: &str = "# by hand: refused 12: no file has been kept yet\nrestore\nbytes\n";
@@ -60,7 +64,7 @@ pub fn make(seed: u64) -> Result<Fixed, String> {
     pool.retain(|entry| entry.counts.refused == [0; 14]);
     choose(&mut pool);
     let mut script = format!(
-        "# Made by the oracle (docs/ORACLE.md): the answers up to the mark below are the Rust's, kept files by docs/SAVED.md. Seed {seed}.\n"
+        "# Made by the oracle (docs/ORACLE.md): the answers up to the mark below are the Rust's, kept files by docs/SAVED.md, what midpoint makes of an entry by document 02. Seed {seed}.\n"
     )
     .into_bytes();
     by_hand_is_so(NO_FILE)?;
@@ -69,7 +73,7 @@ pub fn make(seed: u64) -> Result<Fixed, String> {
         script.extend_from_slice(&entry.script);
     }
     script.extend_from_slice(
-        b"# From here on by hand: the refusals are those of document 01's table and of docs/SAVED.md, the other answers the Rust's.\n",
+        b"# From here on by hand: the refusals are those of document 01's table and of docs/SAVED.md, the other answers as above.\n",
     );
     for part in BY_HAND {
         by_hand_is_so(part)?;

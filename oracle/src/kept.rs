@@ -3,7 +3,8 @@
 
 use std::collections::VecDeque;
 
-use crate::driver::{Campaign, Malformed};
+use crate::campaign::Campaign;
+use crate::driver::Malformed;
 use crate::reader;
 use crate::saved::{self, RECORD, Record};
 use crate::text;

@@ -2,7 +2,8 @@
 //! program `replay`. docs/ORACLE.md says what is compared and what is not.
 //!
 //! Five modules are the Rust's text (build.rs lays it out): `distribution`, `param`, `rng_util`,
-//! `sampler::common` and `sampler::de`. Everything else here was written for the comparison.
+//! `sampler::common` and `sampler::de`. Everything else here was written for the comparison, `midpoint` with it, which
+//! the Rust does not have.
 
 /// The Rust's distribution.rs.
 #[allow(clippy::all)]
@@ -49,10 +50,30 @@ pub mod sampler {
     pub mod de {
         include!(concat!(env!("OUT_DIR"), "/sampler/de.rs"));
         include!("probe.rs");
+
+        /// The functions of de.rs once more, for set-ups with midpoint: over the same private state, and the Rust's but for
+        /// `crate::midpoint`, which is called where crossover takes the mutant's entry.
+        pub mod by_midpoint {
+            use super::*;
+
+            /// A sampler that is called under midpoint.
+            pub struct Midpoint<'a>(pub &'a DESampler);
+
+            impl std::ops::Deref for Midpoint<'_> {
+                type Target = DESampler;
+
+                fn deref(&self) -> &DESampler {
+                    self.0
+                }
+            }
+
+            include!(concat!(env!("OUT_DIR"), "/sampler/midpoint.rs"));
+        }
     }
 }
 
 mod answers;
+pub mod campaign;
 mod closing;
 pub mod compare;
 pub mod counted;
@@ -65,6 +86,7 @@ pub mod generate;
 pub mod history;
 pub mod judge;
 mod kept;
+pub mod midpoint;
 mod reader;
 mod saved;
 pub mod script;

@@ -5,6 +5,7 @@ use std::collections::HashSet;
 
 use crate::distribution::{CategoricalDistribution, Distribution, FloatDistribution, IntDistribution};
 use crate::judge;
+use crate::midpoint::BoundsRule;
 use crate::sampler::de::DEStrategy;
 use crate::saved::Record;
 use crate::script::SetUp;
@@ -50,6 +51,8 @@ pub fn state(records: &[Record]) -> Option<Plain> {
         },
         size: optional(size_set, size)?,
         seed,
+        // A file has no place for another.
+        rule: BoundsRule::Clamp,
     };
     let [called, first, ended, n, d, t, closed, idle, best, word] = lists.words(2, 10)?[..] else {
         return None;

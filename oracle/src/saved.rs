@@ -1,7 +1,7 @@
 //! Saved files: a second writer, and a second reader of their chain. Written from docs/SAVED.md alone.
 
+use crate::campaign::Campaign;
 use crate::distribution::Distribution;
-use crate::driver::Campaign;
 use crate::sampler::de::{DEStrategy, Probe, Vector};
 
 /// A record's bytes.

@@ -2,6 +2,7 @@
 
 use crate::distribution::{CategoricalDistribution, Distribution, FloatDistribution, IntDistribution};
 use crate::history::{Entry, State};
+use crate::midpoint::BoundsRule;
 use crate::sampler::de::DEStrategy;
 
 /// A line longer than this is malformed, a comment too.
@@ -35,6 +36,7 @@ pub struct SetUp {
     pub strategy: DEStrategy,
     pub size: Option<u64>,
     pub seed: u64,
+    pub rule: BoundsRule,
 }
 
 /// The line without its line feed; nothing where it is malformed.
@@ -52,7 +54,7 @@ pub fn parse(line: &[u8]) -> Option<Command> {
         count += 1;
     }
     match &words[..count] {
-        [b"new", f, cr, strategy, size, seed] => Some(Command::New(SetUp {
+        [b"new", f, cr, strategy, size, seed, rest @ ..] => Some(Command::New(SetUp {
             f: double(f)?,
             cr: double(cr)?,
             strategy: match *strategy {
@@ -63,6 +65,7 @@ pub fn parse(line: &[u8]) -> Option<Command> {
             },
             size: optional(size, whole)?,
             seed: whole(seed)?,
+            rule: rule(rest)?,
         })),
         [b"clear"] => Some(Command::Clear),
         [b"tell", trial, value, rest @ ..] => Some(Command::Tell(Entry {
@@ -84,6 +87,15 @@ pub fn parse(line: &[u8]) -> Option<Command> {
             bytes: bytes(digits)?,
         }),
         [b"bytes"] => Some(Command::Bytes),
+        _ => None,
+    }
+}
+
+/// No word stands for clamp.
+fn rule(words: &[&[u8]]) -> Option<BoundsRule> {
+    match words {
+        [] | [b"clamp"] => Some(BoundsRule::Clamp),
+        [b"midpoint"] => Some(BoundsRule::Midpoint),
         _ => None,
     }
 }
@@ -182,5 +194,73 @@ fn digit(b: u8) -> Option<u8> {
         b'0'..=b'9' => Some(b - b'0'),
         b'a'..=b'f' => Some(b - b'a' + 10),
         _ => None,
+    }
+}
+
+#[cfg(test)]
+mod tests {
+    use super::*;
+
+    #[test]
+    fn numbers_and_lines_at_their_edges() {
+        let signed = |words: &str| match parse(format!("sample 1 int {words} lin -").as_bytes()) {
+            Some(Command::Sample {
+                distribution: Distribution::Int(d),
+                ..
+            }) => Some((d.low, d.high)),
+            _ => None,
+        };
+        assert_eq!(
+            signed("-9223372036854775808 9223372036854775807"),
+            Some((i64::MIN, i64::MAX))
+        );
+        assert_eq!(signed("-9223372036854775809 0"), None);
+        assert_eq!(signed("0 9223372036854775808"), None);
+        assert_eq!(signed("-0 0007"), Some((0, 7)));
+        assert_eq!(signed("-  1"), None);
+        assert!(parse(&[b'#'; 512]).is_some());
+        assert!(parse(&[b'#'; 513]).is_none());
+        assert!(parse(b"look ").is_none());
+    }
+
+    #[test]
+    fn the_bounds_rules() {
+        let rule = |words: &str| {
+            let line = format!("new 3fe0000000000000 3feccccccccccccd rand1 4 1{words}");
+            match parse(line.as_bytes()) {
+                Some(Command::New(setup)) => Some(setup.rule),
+                _ => None,
+            }
+        };
+        assert_eq!(rule(""), Some(BoundsRule::Clamp));
+        assert_eq!(rule(" clamp"), Some(BoundsRule::Clamp));
+        assert_eq!(rule(" midpoint"), Some(BoundsRule::Midpoint));
+        for words in [
+            " ",
+            " Midpoint",
+            " mid",
+            " midpoint ",
+            "  midpoint",
+            " clamp midpoint",
+            " 1",
+        ] {
+            assert_eq!(rule(words), None, "{words:?}");
+        }
+    }
+
+    #[test]
+    fn the_states_of_an_entry() {
+        let state = |words: &str| match parse(format!("tell 7 3ff0000000000000{words}").as_bytes()) {
+            Some(Command::Tell(entry)) => Some((entry.trial, entry.value, entry.state)),
+            _ => None,
+        };
+        let told = |state| Some((7, 1.0, state));
+        assert_eq!(state(""), told(State::Complete));
+        assert_eq!(state(" complete"), told(State::Complete));
+        assert_eq!(state(" pruned"), told(State::Pruned));
+        assert_eq!(state(" failed"), told(State::Failed));
+        for words in [" ", " Pruned", " fail", " failed ", "  failed", " failed failed", " 1"] {
+            assert_eq!(state(words), None, "{words:?}");
+        }
     }
 }

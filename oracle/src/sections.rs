@@ -19,11 +19,13 @@ pub fn of(script: &[u8]) -> Vec<Vec<u8>> {
     all
 }
 
-/// A file is read before one is saved or made.
+/// A file is read before one is saved or made. Under midpoint none is saved.
 fn needs_a_file(piece: &[u8]) -> bool {
+    let set_up = piece.split_inclusive(|&b| b == b'\n').next().unwrap_or_default();
+    let saves = !set_up.ends_with(b" midpoint\n");
     let says = |line: &[u8]| match line {
         b"restore\n" | b"bytes\n" => Some(true),
-        b"save\n" => Some(false),
+        b"save\n" if saves => Some(false),
         _ if line.starts_with(b"put ") => Some(true),
         _ if line.starts_with(b"file ") => Some(false),
         _ => None,
@@ -35,9 +37,10 @@ fn needs_a_file(piece: &[u8]) -> bool {
 mod tests {
     #[test]
     fn a_kept_file_is_not_cut_off() {
-        let sections: [&[u8]; 4] = [
+        let sections: [&[u8]; 5] = [
             b"# x\n",
             b"new 1\nsave\nnew 2\nrestore\n",
+            b"new 1\nsave\nnew 2 midpoint\nsave\nrestore\n",
             b"new 3\nlook\n",
             b"new 4\nfile 1\nput 0 00\n",
         ];

@@ -6,14 +6,13 @@ use crate::driver::Driver;
 use crate::generate::distributions::{choice, float, int};
 use crate::generate::malformed;
 use crate::generate::stream::Stream;
-use crate::history::State;
 use crate::judge;
 use crate::param::ParamValue;
 use crate::rng_util::f64_range;
 use crate::sampler::common::{from_internal, internal_bounds, sample_random, to_internal};
 use crate::sampler::de::DESampler;
 use crate::sampler::{CompletedTrial, Sampler};
-use crate::script::{self, Command, SetUp};
+use crate::script::SetUp;
 
 fn answers(script: &str) -> String {
     String::from_utf8(expected(&mut Driver::default(), script.as_bytes())).unwrap()
@@ -103,50 +102,13 @@ fn refusals_of_the_table() {
         strategy: Default::default(),
         size,
         seed: 0,
+        rule: Default::default(),
     };
     assert_eq!(judge::set_up(&setup(2.5, -0.1, Some(161))), Some(1));
     assert_eq!(judge::set_up(&setup(f64::NAN, 0.5, None)), Some(1));
     assert_eq!(judge::set_up(&setup(2.0, -0.1, Some(161))), Some(2));
     assert_eq!(judge::set_up(&setup(-0.0, 1.0, Some(161))), Some(3));
     assert_eq!(judge::set_up(&setup(0.0, -0.0, Some(160))), None);
-}
-
-#[test]
-fn numbers_and_lines_at_their_edges() {
-    let signed = |words: &str| match script::parse(format!("sample 1 int {words} lin -").as_bytes()) {
-        Some(Command::Sample {
-            distribution: Distribution::Int(d),
-            ..
-        }) => Some((d.low, d.high)),
-        _ => None,
-    };
-    assert_eq!(
-        signed("-9223372036854775808 9223372036854775807"),
-        Some((i64::MIN, i64::MAX))
-    );
-    assert_eq!(signed("-9223372036854775809 0"), None);
-    assert_eq!(signed("0 9223372036854775808"), None);
-    assert_eq!(signed("-0 0007"), Some((0, 7)));
-    assert_eq!(signed("-  1"), None);
-    assert!(script::parse(&[b'#'; 512]).is_some());
-    assert!(script::parse(&[b'#'; 513]).is_none());
-    assert!(script::parse(b"look ").is_none());
-}
-
-#[test]
-fn the_states_of_an_entry() {
-    let state = |words: &str| match script::parse(format!("tell 7 3ff0000000000000{words}").as_bytes()) {
-        Some(Command::Tell(entry)) => Some((entry.trial, entry.value, entry.state)),
-        _ => None,
-    };
-    let told = |state| Some((7, 1.0, state));
-    assert_eq!(state(""), told(State::Complete));
-    assert_eq!(state(" complete"), told(State::Complete));
-    assert_eq!(state(" pruned"), told(State::Pruned));
-    assert_eq!(state(" failed"), told(State::Failed));
-    for words in [" ", " Pruned", " fail", " failed ", "  failed", " failed failed", " 1"] {
-        assert_eq!(state(words), None, "{words:?}");
-    }
 }
 
 #[test]

@@ -1,6 +1,9 @@
 //! How numbers are written in scripts and answers.
 
 use crate::distribution::Distribution;
+use crate::midpoint::BoundsRule;
+use crate::sampler::de::DEStrategy;
+use crate::script::SetUp;
 
 /// Whole numbers are decimal.
 pub fn whole(out: &mut Vec<u8>, number: u64) {
@@ -48,6 +51,31 @@ pub fn pattern(out: &mut Vec<u8>, word: u64) {
 /// A double is its bit pattern.
 pub fn double(out: &mut Vec<u8>, x: f64) {
     pattern(out, x.to_bits());
+}
+
+/// A `new` line. With some seeds clamp has its word, which changes nothing.
+pub fn set_up(out: &mut Vec<u8>, setup: &SetUp) {
+    out.extend_from_slice(b"new ");
+    double(out, setup.f);
+    out.push(b' ');
+    double(out, setup.cr);
+    out.extend_from_slice(match setup.strategy {
+        DEStrategy::Rand1 => b" rand1 ",
+        DEStrategy::Best1 => b" best1 ",
+        DEStrategy::CurrentToBest1 => b" current-to-best1 ",
+    });
+    match setup.size {
+        Some(size) => whole(out, size),
+        None => out.push(b'-'),
+    }
+    out.push(b' ');
+    whole(out, setup.seed);
+    out.extend_from_slice(match setup.rule {
+        BoundsRule::Clamp if setup.seed % 8 != 7 => b"",
+        BoundsRule::Clamp => b" clamp",
+        BoundsRule::Midpoint => b" midpoint",
+    });
+    out.push(b'\n');
 }
 
 /// The words of a sample line that name a distribution.

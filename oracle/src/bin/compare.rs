@@ -1,6 +1,6 @@
 //! `compare [--seed S] [--calls C] [--malformed K] [--script FILE] [--oracle-fault NAME] PROGRAM`: the Rust and PROGRAM on
 //! the same scripts, byte by byte. Ends with status 1 at the first difference, of which it prints the script. With a fault in
-//! the oracle, in its generator or in its reading of an entry's state, it must.
+//! the oracle, in its generator or in its reading of an entry's state or of midpoint, it must.
 
 use std::process::ExitCode;
 use std::time::Instant;
@@ -8,8 +8,7 @@ use std::time::Instant;
 use oracle::compare::{self, Outcome};
 use oracle::generate::malformed;
 use oracle::generate::stream::Stream;
-use oracle::history;
-use oracle::sections;
+use oracle::{history, midpoint, sections};
 
 const USAGE: &str =
     "usage: compare [--seed S] [--calls C] [--malformed K] [--script FILE] [--oracle-fault NAME] PROGRAM";
@@ -48,6 +47,8 @@ fn words() -> Option<Words> {
 fn make_faulty(name: &str) -> Option<()> {
     if name == "generator" {
         fastrand::make_faulty();
+    } else if let Some((_, fault)) = midpoint::FAULTS.iter().find(|(word, _)| *word == name) {
+        midpoint::make_faulty(*fault);
     } else {
         history::make_faulty(history::FAULTS.iter().find(|(word, _)| *word == name)?.1);
     }
@@ -94,14 +95,17 @@ fn main() -> ExitCode {
     }
     print!("{totals}");
     println!("time: {:.1} s", began.elapsed().as_secs_f64());
+    let c = &totals.counts;
     println!(
-        "seed {}: {} sample calls ({} behind a restart) and {} generations closed: the same as the Rust's; \
-         {} refusals: the same as the tables'",
+        "seed {}: {} sample calls ({} behind a restart) and {} generations closed: the same as the Rust's, {} and {} of them \
+         under midpoint, with document 02's reading of it in the Rust; {} refusals: the same as the tables'",
         w.seed,
-        totals.counts.calls,
-        totals.counts.restarted,
-        totals.counts.closings,
-        totals.counts.refused.iter().sum::<u64>()
+        c.calls,
+        c.restarted,
+        c.closings,
+        c.midpoint,
+        c.closings_midpoint,
+        c.refused.iter().sum::<u64>()
     );
     ExitCode::SUCCESS
 }

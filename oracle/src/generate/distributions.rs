@@ -105,7 +105,11 @@ pub fn rounding(dice: &mut Dice) -> Distribution {
     let near = |dice: &mut Dice, power: u32| (1i64 << power) + dice.below(9) as i64;
     match dice.below(7) {
         // An entry that is clamped to high is just below half a step from low, or some halves.
-        0 | 1 => float(0.0, *dice.pick(&[0.49999999999999994, 0.5, 1.5, 2.5]), Some(1.0)),
+        0 | 1 => float(
+            0.0,
+            *dice.pick(&[0.49999999999999994, 0.49999999999999994, 0.5, 1.5, 2.5]),
+            Some(1.0),
+        ),
         2 => int(0, *dice.pick(&[1, 3, 5, 9]), Some(2)),
         // Half a unit is lost when it is added to an odd number of 2^52 and more.
         3 => int(*dice.pick(&[0, -TOP, 1]), TOP, Some(1)),
@@ -127,6 +131,20 @@ pub fn rounding(dice: &mut Dice) -> Distribution {
             let low = near(dice, 51) as f64;
             float(low, low + dice.between(1, 12) as f64, Some(1.0))
         }
+    }
+}
+
+/// One on which mutants are often beyond a bound or on it: few doubles, or halves that are rounded, or any.
+pub fn beyond(dice: &mut Dice) -> Distribution {
+    let tiny = |dice: &mut Dice, most: usize| dice.between(1, most) as f64 * 5e-324;
+    match dice.below(5) {
+        0 => float(-tiny(dice, 9), tiny(dice, 9), None),
+        1 => float(0.0, tiny(dice, 1 << 52), None),
+        2 => {
+            let low = (1i64 << dice.between(50, 52)) + dice.below(9) as i64;
+            int(low, low + dice.between(1, 6) as i64, None)
+        }
+        _ => continuous(dice),
     }
 }
 

@@ -5,6 +5,7 @@
 use super::distributions::{choice, float, int};
 use super::section::Section;
 use crate::distribution::Distribution;
+use crate::midpoint::BoundsRule;
 use crate::sampler::de::DEStrategy;
 use crate::script::SetUp;
 
@@ -124,6 +125,11 @@ impl Case {
             strategy: self.strategy,
             size: Some(4),
             seed,
+            rule: if (seed / 11).is_multiple_of(5) {
+                BoundsRule::Midpoint
+            } else {
+                BoundsRule::Clamp
+            },
         });
         for d in dims {
             call(&mut s, restart_at, 1, d);
@@ -154,13 +160,16 @@ impl Case {
     }
 }
 
-/// A call; where it is the one before the restart, a further call of another trial is lost with the reboot.
+/// A call; where it is the one before the restart, a further call of another trial is lost with the reboot. With midpoint
+/// the save is refused, and there is no restart.
 fn call(s: &mut Section, restart_at: u64, trial: u64, d: &Distribution) {
     s.sample(trial, d);
     if s.calls == restart_at {
         s.save();
-        s.sample(99, d);
-        s.restore();
+        if s.kept.is_some() {
+            s.sample(99, d);
+            s.restore();
+        }
     }
 }
 

@@ -8,6 +8,10 @@ use crate::script::{LONGEST_HISTORY, LONGEST_LINE};
 const NEW: &str = "new 3fe0000000000000 3feccccccccccccd rand1 4 1";
 const SAMPLE: &str = "sample 1 float 0000000000000000 3ff0000000000000 lin -";
 
+/// What may follow a seed, and what may not.
+const RULES: &str = "clamp,midpoint,,Midpoint,CLAMP,clam,clamped,midpoin,midpoints,midpoint , midpoint,midpoint\r,midpoint\0,\
+    clampmidpoint,clamp midpoint,midpoint midpoint,halfway,0,1,-";
+
 /// Lines near the edge of what is allowed, some of them allowed.
 const LINES: &[&str] = &[
     "",
@@ -83,6 +87,16 @@ const LINES: &[&str] = &[
     "new 3fe0000000000000 3feccccccccccccd best1 -1 1",
     "new 3fe0000000000000 3feccccccccccccd best1 4 -",
     "new 7ff8000000000000 3feccccccccccccd best1 4 1",
+    "new 3fe0000000000000 3feccccccccccccd rand1 4 midpoint 1",
+    "new 3fe0000000000000 3feccccccccccccd rand1 4 midpoint",
+    "new 3fe0000000000000 3feccccccccccccd midpoint rand1 4 1",
+    "new 3fe0000000000000 3feccccccccccccd rand2 4 1 midpoint",
+    "new 3fe0000000000000 3feccccccccccccd rand1 4 - midpoint",
+    "new 4004000000000000 3feccccccccccccd rand1 4 1 midpoint",
+    "new 3fe0000000000000 bfb999999999999a rand1 4 1 midpoint",
+    "new 3fe0000000000000 3feccccccccccccd rand1 161 1 midpoint",
+    "new 4004000000000000 3feccccccccccccd rand1 4 1 halfway",
+    "midpoint",
     "sample",
     "sample 1",
     "sample 1 choice",
@@ -162,7 +176,8 @@ const LINES: &[&str] = &[
 /// The scripts: those by hand, then so many random ones.
 pub fn scripts(seed: u64, random: usize) -> Vec<Vec<u8>> {
     let mut all: Vec<Vec<u8>> = Vec::new();
-    for line in LINES {
+    let rules = RULES.split(',').map(|rule| format!("{NEW} {rule}"));
+    for line in LINES.iter().map(|line| (*line).to_owned()).chain(rules) {
         // After an accepted set-up, before any, and after a refused one.
         all.push(format!("{NEW}\n{SAMPLE}\n{line}\nlook\nstate\n").into_bytes());
         all.push(format!("{line}\nlook\n").into_bytes());
@@ -210,6 +225,7 @@ fn full_history(state: &str) -> String {
 fn kept_files() -> Vec<Vec<u8>> {
     const REFUSED: &str = "new 4004000000000000 3feccccccccccccd best1 4 1";
     let saved = format!("{NEW}\n{SAMPLE}\nsave\n");
+    let unsaved = format!("{NEW} midpoint\n{SAMPLE}\nsave\n");
     // The file has eight records, 256 bytes.
     let longest = "0".repeat(LONGEST_LINE - "put 0 ".len());
     let mut all = Vec::new();
@@ -240,6 +256,8 @@ fn kept_files() -> Vec<Vec<u8>> {
     ] {
         for end in ["\nrestore\nstate\n", "\nbytes\nsave\nlook\n", ""] {
             all.push(format!("{saved}{lines}{end}").into_bytes());
+            all.push(format!("{unsaved}{lines}{end}").into_bytes());
+            all.push(format!("{saved}{unsaved}{lines}{end}").into_bytes());
             all.push(format!("{lines}{end}").into_bytes());
         }
     }

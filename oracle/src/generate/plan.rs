@@ -6,6 +6,7 @@ use super::exhaustive::STRATEGIES;
 use super::values::{self, Values};
 use crate::distribution::Distribution;
 use crate::judge;
+use crate::midpoint::BoundsRule;
 use crate::script::SetUp;
 
 /// The classes of random sections.
@@ -31,6 +32,8 @@ pub enum Class {
     Rate,
     /// Dimensions on which one way of rounding parts from another.
     Rounding,
+    /// Midpoint, and mutants with entries on the bounds and beyond them.
+    Beyond,
     /// Refused calls between the others.
     Refusals,
 }
@@ -48,6 +51,7 @@ impl Class {
             Class::Short => "left off early",
             Class::Rate => "CR met by a unit",
             Class::Rounding => "rounding at its edges",
+            Class::Beyond => "midpoint, entries on the bounds and beyond them",
             Class::Refusals => "refused calls between the others",
         }
     }
@@ -131,6 +135,11 @@ impl Plan {
                 strategy: *dice.pick(&STRATEGIES),
                 size,
                 seed: *dice.pick(&[0, u64::MAX, word, word, word >> 40]),
+                rule: if dice.percent(20) {
+                    BoundsRule::Midpoint
+                } else {
+                    BoundsRule::Clamp
+                },
             },
             dims,
             generations: dice.between(2, 8) as u64,
@@ -214,11 +223,22 @@ impl Plan {
                 self.generations = 1;
             }
             Class::Rounding => {
+                // Entries at high are wanted.
+                self.setup.rule = BoundsRule::Clamp;
                 self.setup.f = *dice.pick(&[1.0, 1.5, 2.0]);
                 self.setup.cr = *dice.pick(&[0.5, 1.0]);
                 self.each = Each::All;
                 self.workers = *dice.pick(&[1, 4]);
                 self.generations = 12;
+                self.chances.slow = 0;
+            }
+            Class::Beyond => {
+                self.setup.rule = BoundsRule::Midpoint;
+                self.setup.f = *dice.pick(&[0.5, 1.0, 2.0]);
+                self.setup.cr = *dice.pick(&[0.5, 0.9, 1.0]);
+                self.each = Each::One;
+                self.generations = dice.between(8, 20) as u64;
+                self.workers = *dice.pick(&[1, 4]);
                 self.chances.slow = 0;
             }
             Class::Small | Class::Discrete => (),
@@ -232,7 +252,7 @@ fn dims(class: Class, dice: &mut Dice) -> Vec<Distribution> {
         Class::Quick | Class::Small | Class::Extras | Class::Long => dice.between(1, 4),
         Class::Big => *dice.pick(&[1, 2, 16]),
         Class::Rate => dice.between(2, 6),
-        Class::Rounding => dice.between(1, 3),
+        Class::Rounding | Class::Beyond => dice.between(1, 3),
         Class::Wide | Class::Refusals => *dice.pick(&[16, 15, many]),
         Class::Discrete => dice.between(1, 5),
         Class::Short => dice.between(1, 16),
@@ -241,6 +261,7 @@ fn dims(class: Class, dice: &mut Dice) -> Vec<Distribution> {
     let one = |dice: &mut Dice| match class {
         Class::Discrete => distributions::some_choice(dice),
         Class::Rounding => distributions::rounding(dice),
+        Class::Beyond => distributions::beyond(dice),
         _ if continuous => distributions::continuous(dice),
         _ => distributions::accepted(dice),
     };
@@ -253,7 +274,7 @@ fn size(class: Class, dice: &mut Dice, dims: &[Distribution]) -> Option<u64> {
         Class::Big if dims.len() == 16 && dice.percent(50) => None,
         Class::Big => Some(judge::MOST_SLOTS),
         Class::Wide => *dice.pick(&[None, Some(0), Some(4), Some(5), Some(random)]),
-        Class::Quick | Class::Rounding | Class::Extras | Class::Refusals => {
+        Class::Quick | Class::Rounding | Class::Beyond | Class::Extras | Class::Refusals => {
             *dice.pick(&[Some(0), Some(3), Some(4), Some(5)])
         }
         _ => *dice.pick(&[None, Some(0), Some(3), Some(4), Some(4), Some(5), Some(5), Some(random)]),

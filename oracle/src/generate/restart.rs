@@ -5,6 +5,7 @@ use super::campaign::Play;
 use super::plan::{Class, Plan};
 use super::refused;
 use crate::kept::LONGEST_FILE;
+use crate::midpoint::BoundsRule;
 use crate::saved::RECORD;
 
 /// Bytes of the kept file that are overwritten, and what stood there.
@@ -25,6 +26,9 @@ impl Play<'_> {
             self.restart();
         } else if self.dice.once_in(12 + long / 2) {
             self.s.save();
+            if self.s.kept.is_none() {
+                return;
+            }
             if self.dice.once_in(2 + long / 40) {
                 self.s.bytes();
             }
@@ -78,6 +82,10 @@ impl Play<'_> {
         for _ in 0..self.dice.below(4) {
             let number = self.new_number();
             self.call(number);
+        }
+        if !same && other.rule == BoundsRule::Midpoint {
+            // It is refused, and the file that is restored stays.
+            self.s.save();
         }
     }
 

@@ -29,23 +29,23 @@ pub fn scatter(section: &mut Section, dice: &mut Dice) {
 fn restores(lines: &[&[u8]]) -> Vec<(usize, Vec<u8>)> {
     let mut driver = Driver::default();
     let mut all = Vec::new();
+    // How many there were when the file was laid. A refused save lays none.
+    let mut laid = 0;
     for (at, line) in lines.iter().enumerate() {
         let file = driver.kept_file().to_vec();
         let mut out = Vec::new();
         if driver.raw_line(line, &mut out).is_err() {
             break;
         }
-        let short = file.len() <= RECORD * MOST_RECORDS;
-        if *line == b"restore\n" && out == b"restored\n" && short && !is_put_into(&lines[at + 1..]) {
+        if line.starts_with(b"file ") || out.starts_with(b"saved ") {
+            laid = all.len();
+        } else if line.starts_with(b"put ") {
+            all.truncate(laid);
+        } else if out == b"restored\n" && file.len() <= RECORD * MOST_RECORDS {
             all.push((at, file));
         }
     }
     all
-}
-
-fn is_put_into(lines: &[&[u8]]) -> bool {
-    let touches = |line: &&&[u8]| line.starts_with(b"put ") || line.starts_with(b"file ") || **line == b"save\n";
-    lines.iter().find(touches).is_some_and(|line| line.starts_with(b"put "))
 }
 
 /// The lines that lay a canonical file's records elsewhere, with others between that are off the chain.

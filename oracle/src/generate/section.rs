@@ -7,7 +7,7 @@ use super::mark::Mark;
 use crate::distribution::Distribution;
 use crate::history::{Entry, State};
 use crate::judge;
-use crate::sampler::de::DEStrategy;
+use crate::midpoint::BoundsRule;
 use crate::script::SetUp;
 use crate::text;
 
@@ -35,6 +35,7 @@ pub struct Section {
     pub told: HashSet<u64>,
     calls_of: HashMap<u64, usize>,
     size: Option<u64>,
+    rule: BoundsRule,
     /// NaN values of complete entries.
     nans: usize,
     /// There is a state.
@@ -60,6 +61,7 @@ impl Section {
             told: HashSet::new(),
             calls_of: HashMap::new(),
             size: setup.size,
+            rule: setup.rule,
             nans: 0,
             alive: judge::set_up(setup).is_none(),
             kept: None,
@@ -73,6 +75,7 @@ impl Section {
         self.set_up_line(setup);
         self.forget();
         self.stand_at(Mark::fresh(setup.size));
+        self.rule = setup.rule;
         self.alive = judge::set_up(setup).is_none();
     }
 
@@ -84,11 +87,16 @@ impl Section {
         self.calls_of = mark.calls_of;
         self.generations = mark.generations;
         self.size = mark.size;
+        self.rule = BoundsRule::Clamp;
         self.alive = true;
     }
 
+    /// With midpoint it is refused, and the kept file stays.
     pub fn save(&mut self) {
         self.text.extend_from_slice(b"save\n");
+        if self.rule == BoundsRule::Midpoint {
+            return;
+        }
         self.kept = Some(Mark {
             dims: self.dims.clone(),
             first: self.first,
@@ -138,23 +146,7 @@ impl Section {
 
     /// A `new` line alone.
     pub fn set_up_line(&mut self, setup: &SetUp) {
-        let out = &mut self.text;
-        out.extend_from_slice(b"new ");
-        text::double(out, setup.f);
-        out.push(b' ');
-        text::double(out, setup.cr);
-        out.extend_from_slice(match setup.strategy {
-            DEStrategy::Rand1 => b" rand1 ",
-            DEStrategy::Best1 => b" best1 ",
-            DEStrategy::CurrentToBest1 => b" current-to-best1 ",
-        });
-        match setup.size {
-            Some(size) => text::whole(out, size),
-            None => out.push(b'-'),
-        }
-        out.push(b' ');
-        text::whole(out, setup.seed);
-        out.push(b'\n');
+        text::set_up(&mut self.text, setup);
     }
 
     /// A sample line; says whether the ledger sees it close a generation. A `state` line follows a closing.

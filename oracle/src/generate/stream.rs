@@ -18,10 +18,11 @@ pub const SHORT_FROM: u64 = 100_000;
 pub const LONG_FROM: u64 = 4_000_000;
 
 /// The classes in turn. Those whose generations close soonest come most often.
-const TURNS: [Class; 28] = [
+const TURNS: [Class; 30] = [
     Class::Quick,
     Class::Wide,
     Class::Quick,
+    Class::Beyond,
     Class::Small,
     Class::Quick,
     Class::Extras,
@@ -36,6 +37,7 @@ const TURNS: [Class; 28] = [
     Class::Small,
     Class::Quick,
     Class::Rounding,
+    Class::Beyond,
     Class::Long,
     Class::Quick,
     Class::Short,
