@@ -150,10 +150,15 @@ fn search_half(plan: Plan, rule: BoundsRule) -> Result<String, Refusal> {
     let found = |c: &Campaign| (0..plan.generations).find(|&generation| above(c, generation) <= NEAR);
     let generation = |c: &Campaign| found(c).map_or(f64::INFINITY, |generation| generation as f64 + 1.0);
     let on_limit: usize = campaigns.iter().flat_map(|c| &c.on_limit).sum();
+    let when = median(campaigns.iter().map(generation));
     Ok(format!(
-        "{:>6.2} {:>5.0} {:>6} {:>6} {:>8}",
+        "{:>6.2} {:>5} {:>6} {:>6} {:>8}",
         median(campaigns.iter().map(|c| above(c, 9))),
-        median(campaigns.iter().map(generation)),
+        if when.is_finite() {
+            format!("{when:.0}")
+        } else {
+            "-".to_string()
+        },
         percent(campaigns.iter().filter_map(found).count(), campaigns.len()),
         percent(on_limit, campaigns.len() * plan.generations * SLOTS),
         percent(campaigns.iter().filter(|c| c.settled).count(), campaigns.len()),
@@ -163,6 +168,7 @@ fn search_half(plan: Plan, rule: BoundsRule) -> Result<String, Refusal> {
 fn main() -> Result<(), Box<dyn Error>> {
     let rand = Sampler::builder().population_size(SLOTS as u64).mutation_factor(0.7);
     let to_best = rand.strategy(DEStrategy::CurrentToBest1);
+    let from_best = rand.strategy(DEStrategy::Best1);
     let mut out = io::stdout();
 
     writeln!(
@@ -171,7 +177,7 @@ fn main() -> Result<(), Box<dyn Error>> {
     )?;
     for (name, setup, scatter) in [
         ("CurrentToBest1, CR = 0.9", to_best, 0.0),
-        ("Best1, CR = 0.9", rand.strategy(DEStrategy::Best1), 0.0),
+        ("Best1, CR = 0.9", from_best, 0.0),
         ("Rand1, CR = 0.9", rand, 0.0),
         ("Rand1, CR = 0.5", rand.crossover_rate(0.5), 0.0),
         ("Rand1, CR = 0.9, values scatter", rand, 0.1),
@@ -192,7 +198,7 @@ fn main() -> Result<(), Box<dyn Error>> {
         "\n6. Best quota at .. (seeds 21 to 60), with clamp             with midpoint\n{:24}{columns}    {columns}",
         ""
     )?;
-    for (name, setup) in [("CurrentToBest1", to_best), ("Rand1", rand)] {
+    for (name, setup) in [("CurrentToBest1", to_best), ("Best1", from_best), ("Rand1", rand)] {
         for best_quota in [92.0, 244.0, 252.0, 255.0, LIMIT, 300.0] {
             let plan = Plan {
                 setup,
