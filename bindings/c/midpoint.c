@@ -216,7 +216,7 @@ static void infinities_and_nans(void) {
                 EXPECT(a.refusal == DE_ENTRY_NAN && memcmp(&twin, &before, sizeof twin) == 0);
                 refused++;
             } else {
-                /* Of three mutants that are minus infinity: (DBL_MAX + 0) / 2 is above the high bound. */
+                /* The mutants of slots 1 and 3 are minus infinity: (DBL_MAX + 0) / 2 is above the high bound. */
                 EXPECT(a.kind == DE_FLOAT && twin.candidates[0].x[0] == 0.0);
                 EXPECT(twin.candidates[1].x[0] == (double)rule && twin.candidates[3].x[0] == (double)rule);
             }

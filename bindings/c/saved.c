@@ -148,11 +148,6 @@ static void no_states(void) {
     save_refused(&walk.state, 0, DE_BAD_CONTENT);
     walk.state.idle = 0;
     save_refused(&walk.state, 0, DE_BAD_FILE);
-    /* A sound state, but one that no file has a place for. */
-    walk.state.setup.bounds_rule = DE_MIDPOINT;
-    save_refused(&walk.state, sizeof file, DE_BAD_CONTENT);
-    save_refused(&walk.state, 0, DE_BAD_CONTENT);
-    walk.state.setup.bounds_rule = DE_CLAMP;
     walk.state.dims[3].kind = 17;
     save_refused(&walk.state, sizeof file, DE_BAD_CONTENT);
 }
