@@ -55,7 +55,8 @@ pub option_back : (o : Option ℕ) → word_option (flag (is_some o)) (unwrap_or
 option_back None = refl
 option_back (Some n) = refl
 
-rule-back : (r : BoundsRule) → rule_has_place r ≡ true → Clamp ≡ r
+-- the one rule that has a place
+pub rule-back : (r : BoundsRule) → rule_has_place r ≡ true → Clamp ≡ r
 rule-back Clamp e = refl
 rule-back Midpoint e = absurd (true≢false (sym e))
 

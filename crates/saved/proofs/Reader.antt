@@ -6,6 +6,7 @@ use mathlib.Core.Path.{◌≡◌, refl, sym, ap, ◌∙◌, subst}
 use mathlib.Core.Bool.{true, cond, Bool, false, ◌&&◌, ◌||◌}
 use mathlib.Core.List.{List, ◌++◌, map}
 use borrow.Author.Tests.{eq-eqb, ne_eqb, le-leb, lt-leb, lt-ltb, le-ltb}
+use Rattle.std.proofs.Math.Bool.{and-false}
 use Rattle.std.specs.List.{list_all, zip}
 use lib.Dec.{eqb, leb, ltb}
 use lib.ListN.{length, drop}
@@ -39,11 +40,7 @@ module _ (s : State) (f : List ℕ) where
   unsound e = ap (λ (b : Bool). b && has_place s.setup) e
 
   pub no-place : has_place s.setup ≡ false → is_savable s ≡ false
-  no-place e = ap (λ (b : Bool). sound_state s && b) e ∙ and-none (sound_state s)
-    where
-      and-none : (b : Bool) → (b && false) ≡ false
-      and-none true = refl
-      and-none false = refl
+  no-place e = ap (λ (b : Bool). sound_state s && b) e ∙ and-false (sound_state s)
 
   pub not-savable : is_savable s ≡ false → Saved (Err BadContent) f
   unfolding save_of saved_in
