@@ -1,10 +1,9 @@
 -- The laws of this crate's functions: what their calls return, put together.
-use Rattle.std.proofs.Common.{◌≡◌, ap, ◌∙◌, arith, List, length, ℕ, ◌+◌, ◌≤◌, Bool, true, false, cond, get_or, Ok}
+use Rattle.std.proofs.Common.{◌≡◌, ap, ◌∙◌, arith, List, length, ℕ, ◌+◌, ◌≤◌, Bool, true, false, cond, get_or}
 use lib.Dec.{ltb}
 use lib.ListN.{length-take}
 use Rattle.rng_util.specs.Gen.{Made, made}
 use Rattle.rng_util.specs.declared.Gen.{Gen}
-use Rattle.candidates.specs.Nan.{any_nan}
 use Rattle.candidates.specs.Random.{random_candidate}
 use Rattle.candidates.specs.Space.{space_of}
 use Rattle.candidates.specs.declared.Candidate.{Candidate}
@@ -15,7 +14,7 @@ use Rattle.distribution.specs.declared.DimensionInfo.{DimensionInfo}
 use Rattle.state.specs.View.{candidate_count}
 use Rattle.state.specs.declared.State.{State}
 use Rattle.state.specs.View.{dims_of}
-use Rattle.assignment.specs.Raw.{no_candidate, made_ok, unless_bad, candidate_for, assigned_at}
+use Rattle.assignment.specs.Raw.{no_candidate, candidate_for, assigned_at}
 
 pub cond-true : {A : Type 0} (b : Bool) (x y : A) → b ≡ true → cond b x y ≡ x
 cond-true b x y e = rw e
@@ -24,9 +23,9 @@ pub cond-false : {A : Type 0} (b : Bool) (x y : A) → b ≡ false → cond b x 
 cond-false b x y e = rw e
 
 -- a new candidate draws at most once for each dimension
-pub assigned-few : (s : State) (place : ℕ) (g g' : Gen) (y : Candidate) → s.n_dims ≤ 16 → made_ok (Ok y) g' ≡ assigned_at s place g → g'.draws ≤ g.draws + 16
+pub assigned-few : (s : State) (place : ℕ) (g g' : Gen) (y : Candidate) → s.n_dims ≤ 16 → made y g' ≡ assigned_at s place g → g'.draws ≤ g.draws + 16
 unfolding candidate_for
-assigned-few s place g g' y few e = go (ltb place (candidate_count s)) (any_nan (random_candidate (space_of (dims_of s)) g).out.x) e
+assigned-few s place g g' y few e = go (ltb place (candidate_count s)) e
   where
     own : Candidate
     own = get_or s.candidates place no_candidate
@@ -34,12 +33,9 @@ assigned-few s place g g' y few e = go (ltb place (candidate_count s)) (any_nan 
     new : Made Candidate
     new = random_candidate (space_of (dims_of s)) g
 
-    go : (known bad : Bool) → made_ok (Ok y) g' ≡ cond known (Ok (made own g)) (unless_bad bad new) → g'.draws ≤ g.draws + 16
-    go true bad e = let e : made y g' ≡ made own g = cc in omega (arith, ap (λ (m : Made Candidate). m.after.draws) e)
-    go false true e = absurd cc
-    go false false e =
-        let e : made y g' ≡ new = cc in
-        omega (arith, ap (λ (m : Made Candidate). m.after.draws) e, candidate-few (dims_of s) g, length-take s.n_dims s.dims)
+    go : (known : Bool) → made y g' ≡ cond known (made own g) new → g'.draws ≤ g.draws + 16
+    go true e = omega (arith, ap (λ (m : Made Candidate). m.after.draws) e)
+    go false e = omega (arith, ap (λ (m : Made Candidate). m.after.draws) e, candidate-few (dims_of s) g, length-take s.n_dims s.dims)
 
 -- the space of a state's dimensions, as far as a draw asks
 module _ (s : State) (few : s.n_dims ≤ 16) (ds : List DimensionInfo) (is : ds ≡ dims_of s) (space : Space) (made : space ≡ space_of ds) where

@@ -1,7 +1,7 @@
 -- What this crate's functions require holds on a sound state that is laid out.
 use Rattle.std.specs.Prelude.{Option, Some, None, Result, Ok, Err, ⊤}
 use Prim.Native.Nat.{ℕ, zero, suc, ◌+◌, ◌≤◌, ◌<◌, ◌^◌, max}
-use mathlib.Core.Path.{◌≡◌, refl, sym, ap, ◌∙◌}
+use mathlib.Core.Path.{◌≡◌, refl, ◌∙◌}
 use mathlib.Core.Bool.{Bool, true, false, not, ◌&&◌}
 use mathlib.Core.List.Memᴰ
 use mathlib.Core.List.{List, [], ◌∷◌}
@@ -10,7 +10,6 @@ use native.Mathlib.Omega.{arith}
 use borrow.Author.Tests.{ltb-false, leb-false}
 use lib.Dec.{leb}
 use lib.ListN.{length, length-map}
-use Rattle.rng_util.specs.Gen.{Made}
 use Rattle.distribution.specs.Dims.{choices}
 use Rattle.distribution.specs.Good.{Good}
 use Rattle.distribution.specs.Validate.{verdict_of, refusal_of, judged}
@@ -18,10 +17,7 @@ use Rattle.distribution.specs.declared.DimensionInfo.{DimensionInfo}
 use Rattle.distribution.specs.declared.Distribution.{Distribution}
 use Rattle.distribution.specs.declared.Distribution.TheVariants.{Float as FloatD, Int as IntD, Categorical}
 use Rattle.distribution.proofs.Meaning.{judged-good}
-use Rattle.candidates.specs.Nan.{any_bad}
-use Rattle.candidates.specs.Random.{random_candidates}
-use Rattle.candidates.specs.Space.{FewChoices, continuous_count, space_of}
-use Rattle.candidates.specs.declared.Candidate.{Candidate}
+use Rattle.candidates.specs.Space.{FewChoices, continuous_count}
 use Rattle.candidates.proofs.Count.{candidates-few}
 use Rattle.candidates.proofs.Passed.{few-continuous}
 use Rattle.evolution.specs.declared.Setup.{Setup}
@@ -33,10 +29,9 @@ use Rattle.ledger.specs.State as Plain
 use Rattle.ledger.specs.State.{Trial, numbers}
 use Rattle.ledger.specs.Assignment.{place_in}
 use Rattle.ledger.specs.Soundness.{Running}
-use Rattle.ledger.proofs.Lists.{none≢some, some_inj}
 use Rattle.ledger.proofs.Trials.{place-in}
-use Rattle.kernel.specs.De.{de, code_gen, unless_nan, firsts_of}
-use Rattle.state.specs.Setup.{size_fails}
+use Rattle.kernel.specs.De.{de, code_gen, firsts_of}
+use Rattle.kernel.specs.Setup.{size_fails}
 use Rattle.state.specs.View.{laid}
 use Rattle.assignment.specs.Raw.{Ready, Complete}
 use Rattle.assignment.proofs.Arrays.{place-numbers}
@@ -101,16 +96,10 @@ ready-laid S m c N g o few pass trials valid draws =
 
 -- ---- the end of discovery
 
--- what is made and not refused by 11 has drawn what it drew
-pub made-draws : {A : Type 0} (bad : Bool) (x : Made A) (r : L.Made ℕ A) → unless_nan bad x ≡ Some r → r.gen.draws ≡ x.after.draws
-made-draws true x r e = absurd (none≢some e)
-made-draws {A} false x r e = sym (ap (λ (y : L.Made ℕ A). y.gen.draws) (some_inj e))
-
 -- the first candidates: at most one draw for each dimension of each
-pub firsts-draws : (S : Setup) (ds : List DimensionInfo) (N : ℕ) (g : L.Gen ℕ) (r : L.Made ℕ (List Candidate)) → de.firsts S ds N g ≡ Some r → N ≤ 160 → length ds ≤ 16 → r.gen.draws ≤ g.draws + 2560
+pub firsts-draws : (S : Setup) (ds : List DimensionInfo) (N : ℕ) (g : L.Gen ℕ) → N ≤ 160 → length ds ≤ 16 → (de.firsts S ds N g).gen.draws ≤ g.draws + 2560
 unfolding firsts_of
-firsts-draws S ds N g r e n k =
-    omega (arith, made-draws (any_bad (random_candidates (space_of ds) N (code_gen g)).out) (random_candidates (space_of ds) N (code_gen g)) r e, candidates-few ds N (code_gen g), mul-le-mul n k)
+firsts-draws S ds N g n k = omega (arith, candidates-few ds N (code_gen g), mul-le-mul n k)
 
 -- refusal 3 is not for the set-up
 pub size_few : (u : Option ℕ) (n : ℕ) → size_fails u ≡ false → n ≤ 16 → size_of u n ≤ 160

@@ -1,5 +1,5 @@
 -- Step 5 on a state that is laid out is the ledger's `assign`, laid out: the candidate at the trial's place, or a new one for an extra, and the trial's record moved on.
-use Rattle.std.specs.Prelude.{Option, Some, None, Ok, slice_get}
+use Rattle.std.specs.Prelude.{Option, Some, None, slice_get}
 use Prim.Native.Nat.{ℕ, ◌+◌, ◌-◌, ◌<◌, min, max}
 use mathlib.Core.Path.{◌≡◌, refl, sym, ap, ◌∙◌}
 use mathlib.Core.Bool.{Bool, true, false, cond}
@@ -9,7 +9,7 @@ use borrow.Author.Tests.{lt-ltb, le-ltb}
 use lib.Dec.{ltb}
 use lib.ListN.{length, set, replicate, length-map, get_or-append}
 use lib.Seq.{take-append_seam, set-get_or}
-use Rattle.rng_util.specs.Gen.{Made, made}
+use Rattle.rng_util.specs.Gen.{made}
 use Rattle.rng_util.specs.Many.{pad_to}
 use Rattle.rng_util.proofs.Parts.{pad-put}
 use Rattle.distribution.specs.declared.DimensionInfo.{DimensionInfo}
@@ -17,13 +17,11 @@ use Rattle.distribution.specs.declared.Distribution.{Distribution}
 use Rattle.distribution.specs.declared.ParamValue.{ParamValue}
 use Rattle.common.specs.Random.{random_setting}
 use Rattle.candidates.specs.Candidate.{blank_candidate}
-use Rattle.candidates.specs.Nan.{any_nan}
 use Rattle.candidates.specs.Random.{random_candidate}
 use Rattle.candidates.specs.Space.{space_of}
 use Rattle.candidates.specs.declared.Candidate.{Candidate}
 use Rattle.evolution.specs.declared.Setup.{Setup}
 use Rattle.ledger.specs.Kernel as L
-use Rattle.ledger.specs.Words.{◌>>=◌}
 use Rattle.ledger.specs.Call.{Call}
 use Rattle.ledger.specs.State.{numbers}
 use Rattle.ledger.specs.State as Plain
@@ -35,8 +33,8 @@ use Rattle.kernel.specs.De as De
 use Rattle.state.specs.Blank.{blank_trial}
 use Rattle.state.specs.View.{laid, candidate_count, progress_of, has_size, size_number}
 use Rattle.state.specs.View.{dims_of}
-use Rattle.assignment.specs.Raw.{no_candidate, place_of, setting_for, unless_bad, extra_of, candidate_for, Given, with_trial, next_at, given_at, served_with, assigned_at, raw_active}
-use Rattle.assignment.specs.Laid.{laid_given, laid_accepted}
+use Rattle.assignment.specs.Raw.{no_candidate, place_of, setting_for, candidate_for, with_trial, next_at, given_at, served_with, assigned_at, raw_active}
+use Rattle.assignment.specs.Laid.{laid_given}
 use Rattle.assignment.proofs.Laws.{cond-true, cond-false}
 use Rattle.assignment.proofs.Arrays.{at-get_or, place-numbers, numbers-laid, next-laid, moved, move-laid}
 
@@ -96,21 +94,20 @@ module _ (S : Setup) (m : Plain.State de) (c : Call de) (N : ℕ) (o : Open m N 
         rw (h, trials-laid, k)
 
     -- the call of a trial whose candidate is y
-    serve-laid : served_with (laid S m) lent c.number place (Ok (made y (code_gen g))) ≡ Ok (laid_given S (serve de m c cs y g))
+    serve-laid : served_with (laid S m) lent c.number place (made y (code_gen g)) ≡ laid_given S (serve de m c cs y g)
     unfolding setting_for laid
     serve-laid =
-        ap (λ (a : Given). Ok a)
-        (ap (λ (ds : List DimensionInfo). given_at (laid S m) c.number place y (next_at (laid S m) place) (setting_for ds lent (next_at (laid S m) place) y (code_gen g))) (dims-laid S m)
+        ap (λ (ds : List DimensionInfo). given_at (laid S m) c.number place y (next_at (laid S m) place) (setting_for ds lent (next_at (laid S m) place) y (code_gen g))) (dims-laid S m)
         ∙ ap (λ (k : ℕ). given_at (laid S m) c.number place y k (setting_for m.dims lent k y (code_gen g))) (next-laid m.trials c.number (224 - length (map progress_of m.trials)))
         ∙ given-laid (De.made (setting_for m.dims lent next y (code_gen g)))
-        ∙ ap (λ (r : L.Made ℕ ParamValue). laid_given S (hand_out de m c cs r)) (setting-is (ltb next (length m.dims)) m c next y g))
+        ∙ ap (λ (r : L.Made ℕ ParamValue). laid_given S (hand_out de m c cs r)) (setting-is (ltb next (length m.dims)) m c next y g)
 
-  known-laid : (y : Candidate) (g : L.Gen ℕ) → slice_get m.candidates place ≡ Some y → assigned_at (laid S m) place (code_gen g) ≡ Ok (made y (code_gen g))
+  known-laid : (y : Candidate) (g : L.Gen ℕ) → slice_get m.candidates place ≡ Some y → assigned_at (laid S m) place (code_gen g) ≡ made y (code_gen g)
   unfolding candidate_for laid
   known-laid y g e =
       let t : ltb place (candidate_count (laid S m)) ≡ true = lt-ltb place (candidate_count (laid S m)) (rw count-laid (at-below m.candidates place y e)) in
       cond-true _ _ _ t
-      ∙ ap (λ (z : Candidate). Ok (made z (code_gen g)))
+      ∙ ap (λ (z : Candidate). made z (code_gen g))
       (get_or-append m.candidates _ no_candidate place (at-below m.candidates place y e) ∙ at-get_or m.candidates place y no_candidate e)
 
   stays : (y : Candidate) → slice_get m.candidates place ≡ Some y → set (pad_to 224 blank_candidate m.candidates) place y ≡ pad_to 224 blank_candidate m.candidates
@@ -119,11 +116,11 @@ module _ (S : Setup) (m : Plain.State de) (c : Call de) (N : ℕ) (o : Open m N 
       (sym (get_or-append m.candidates _ no_candidate place (at-below m.candidates place y e) ∙ at-get_or m.candidates place y no_candidate e))
       ∙ set-get_or (pad_to 224 blank_candidate m.candidates) place no_candidate
 
-  extra-laid : (g : L.Gen ℕ) → slice_get m.candidates place ≡ None → assigned_at (laid S m) place (code_gen g) ≡ extra_of (random_candidate (space_of m.dims) (code_gen g))
+  extra-laid : (g : L.Gen ℕ) → slice_get m.candidates place ≡ None → assigned_at (laid S m) place (code_gen g) ≡ random_candidate (space_of m.dims) (code_gen g)
   unfolding candidate_for
   extra-laid g e =
       let t : ltb place (candidate_count (laid S m)) ≡ false = le-ltb place (candidate_count (laid S m)) (rw count-laid (past_end m.candidates place e)) in
-      cond-false _ _ _ t ∙ ap (λ (ds : List DimensionInfo). extra_of (random_candidate (space_of ds) (code_gen g))) (dims-laid S m)
+      cond-false _ _ _ t ∙ ap (λ (ds : List DimensionInfo). random_candidate (space_of ds) (code_gen g)) (dims-laid S m)
 
   joins : (y : Candidate) → slice_get m.candidates place ≡ None → set (pad_to 224 blank_candidate m.candidates) place y ≡ pad_to 224 blank_candidate (m.candidates ++ (y ∷ []))
   joins y e =
@@ -131,21 +128,15 @@ module _ (S : Setup) (m : Plain.State de) (c : Call de) (N : ℕ) (o : Open m N 
       let end : place ≡ length m.candidates = omega (arith, past_end m.candidates place e, place-numbers m.trials c.number, o.candidates) in
       ap (λ (i : ℕ). set (pad_to 224 blank_candidate m.candidates) i y) end ∙ pad-put 224 blank_candidate y m.candidates (omega arith)
 
-  new-laid : (bad : Bool) (r : Made Candidate) → slice_get m.candidates place ≡ None
-      → served_with (laid S m) lent c.number place (unless_bad bad r)
-      ≡ laid_accepted S (De.unless_nan bad r >>= λ x. Some (serve de m c (m.candidates ++ (x.out ∷ [])) x.out x.gen))
-  new-laid true r e = refl
-  new-laid false r e = serve-laid (m.candidates ++ (r.out ∷ [])) r.out (De.made r).gen (joins r.out e)
-
   -- The theorem for step 5: `sample_active` on a state laid out is the ledger's assignment.
-  pub active-laid : (g : L.Gen ℕ) → raw_active (laid S m) lent c.number (code_gen g) ≡ laid_accepted S (assign de S m c g (slice_get m.candidates place))
+  pub active-laid : (g : L.Gen ℕ) → raw_active (laid S m) lent c.number (code_gen g) ≡ laid_given S (assign de S m c g (slice_get m.candidates place))
   unfolding raw_active
   active-laid g =
       ap (λ (i : ℕ). served_with (laid S m) lent c.number i (assigned_at (laid S m) i (code_gen g))) (place-laid S m c.number)
       ∙ go (slice_get m.candidates place) refl
     where
-      go : (z : Option Candidate) → slice_get m.candidates place ≡ z → served_with (laid S m) lent c.number place (assigned_at (laid S m) place (code_gen g)) ≡ laid_accepted S (assign de S m c g z)
+      go : (z : Option Candidate) → slice_get m.candidates place ≡ z → served_with (laid S m) lent c.number place (assigned_at (laid S m) place (code_gen g)) ≡ laid_given S (assign de S m c g z)
       go (Some y) e = unfold assign in ap (served_with (laid S m) lent c.number place) (known-laid y g e) ∙ serve-laid m.candidates y g (stays y e)
       go None e =
-          unfold assign De.extra_of in ap (served_with (laid S m) lent c.number place) (extra-laid g e)
-          ∙ new-laid (any_nan (random_candidate (space_of m.dims) (code_gen g)).out.x) (random_candidate (space_of m.dims) (code_gen g)) e
+          unfold assign De.extra_of in let r = random_candidate (space_of m.dims) (code_gen g) in
+          ap (served_with (laid S m) lent c.number place) (extra-laid g e) ∙ serve-laid (m.candidates ++ (r.out ∷ [])) r.out (De.made r).gen (joins r.out e)

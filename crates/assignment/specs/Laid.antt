@@ -1,8 +1,6 @@
--- What the ledger's steps 1 and 5 give, with the state laid out in the code's arrays. `None` is refusal 11.
-use Rattle.std.specs.Prelude.{ℕ, List, Option, Some, None, Result, Ok, Err}
+-- What the ledger's steps 1 and 5 give, with the state laid out in the code's arrays.
+use Rattle.std.specs.Prelude.{ℕ, List}
 use Rattle.rng_util.specs.Gen.{Made, made}
-use Rattle.distribution.specs.declared.Refusal.{Refusal}
-use Rattle.distribution.specs.declared.Refusal.TheVariants.{EntryNan}
 use Rattle.candidates.specs.declared.Candidate.{Candidate}
 use Rattle.evolution.specs.declared.Setup.{Setup}
 use Rattle.ledger.specs.Kernel as L
@@ -18,12 +16,6 @@ use Rattle.assignment.specs.Raw.{Given}
 abbrev pub laid_given : Setup → Step.Accepted de → Given
 laid_given S a = record { setting = a.setting; draws = a.draws; state = laid S a.state }
 
--- by what a call makes
-abbrev pub laid_accepted : Setup → Option (Step.Accepted de) → Result Given Refusal
-laid_accepted S None = Err EntryNan
-laid_accepted S (Some a) = Ok (laid_given S a)
-
 -- the end of discovery, with N slots, by the candidates
-abbrev pub laid_begun : Setup → Plain.State de → ℕ → Option (L.Made ℕ (List Candidate)) → Result (Made State) Refusal
-laid_begun S m N None = Err EntryNan
-laid_begun S m N (Some r) = Ok (made (laid S (begin de m N r.out)) (code_gen r.gen))
+abbrev pub laid_begun : Setup → Plain.State de → ℕ → L.Made ℕ (List Candidate) → Made State
+laid_begun S m N r = made (laid S (begin de m N r.out)) (code_gen r.gen)

@@ -1,6 +1,6 @@
 -- What the code does to its own arrays in steps 1 and 5: the contracts of the parts. proofs/Refine shows that on a state that is laid out it is the
 -- ledger's step, laid out.
-use Rattle.std.specs.Prelude.{ℕ, ◌+◌, ◌≤◌, ◌<◌, ◌^◌, min, max, ◌≡◌, Bool, true, cond, List, [], map, ltb, length, get_or, set, take, Some, Result, Ok, Err}
+use Rattle.std.specs.Prelude.{ℕ, ◌+◌, ◌≤◌, ◌<◌, ◌^◌, min, max, ◌≡◌, Bool, true, cond, List, [], map, ltb, length, get_or, set, take, Some, Ok}
 use Rattle.rng_util.specs.Gen.{Made, made}
 use Rattle.rng_util.specs.Many.{pad_to}
 use Rattle.rng_util.specs.declared.Gen.{Gen}
@@ -12,12 +12,9 @@ use Rattle.distribution.specs.declared.DimensionInfo.{DimensionInfo}
 use Rattle.distribution.specs.declared.Distribution.{Distribution}
 use Rattle.distribution.specs.declared.ParamValue.{ParamValue}
 use Rattle.distribution.specs.declared.ParamValue.TheVariants.{Categorical}
-use Rattle.distribution.specs.declared.Refusal.{Refusal}
-use Rattle.distribution.specs.declared.Refusal.TheVariants.{EntryNan}
 use Rattle.common.specs.FromInternal.{from_internal}
 use Rattle.common.specs.Random.{random_setting}
 use Rattle.candidates.specs.Candidate.{blank_candidate, entry_of, choice_of}
-use Rattle.candidates.specs.Nan.{any_nan, any_bad}
 use Rattle.candidates.specs.Random.{random_candidate, random_candidates}
 use Rattle.candidates.specs.Space.{FewChoices, space_of}
 use Rattle.candidates.specs.declared.Candidate.{Candidate}
@@ -59,22 +56,9 @@ decoded_by d at ci y = cond (continuous d) (from_internal (entry_of y ci) d) (Ca
 unfoldable pub setting_for : List DimensionInfo → Distribution → ℕ → Candidate → Gen → Made ParamValue
 setting_for ds lent k y g = cond (ltb k (length ds)) (made (decode_of ds k y) g) (random_setting lent g)
 
--- what was made with the lent generator, or a refusal
-abbrev pub made_ok : {A : Type 0} → Result A Refusal → Gen → Result (Made A) Refusal
-made_ok (Ok a) g = Ok (made a g)
-made_ok (Err r) g = Err r
-
--- 11: "a new candidate's entry is NaN"
-abbrev pub unless_bad : {A : Type 0} → Bool → A → Result A Refusal
-unless_bad bad a = cond bad (Err EntryNan) (Ok a)
-
--- a new candidate
-abbrev pub extra_of : Made Candidate → Result (Made Candidate) Refusal
-extra_of m = unless_bad (any_nan m.out.x) m
-
 -- by whether the trial has a candidate: "After N trials each extra gets a random candidate"
-unfoldable pub candidate_for : Bool → Candidate → List DimensionInfo → Gen → Result (Made Candidate) Refusal
-candidate_for known own ds g = cond known (Ok (made own g)) (extra_of (random_candidate (space_of ds) g))
+unfoldable pub candidate_for : Bool → Candidate → List DimensionInfo → Gen → Made Candidate
+candidate_for known own ds g = cond known (made own g) (random_candidate (space_of ds) g)
 
 -- an accepted call
 pub record Given : Type 0 where
@@ -85,11 +69,6 @@ pub record Given : Type 0 where
 -- a setting and the draws that it took, with the state then
 abbrev pub given : ParamValue × ℕ → State → Given
 given x s = record { setting = x.0; draws = x.1; state = s }
-
--- the same of a call that may be refused
-abbrev pub given_ok : Result (ParamValue × ℕ) Refusal → State → Result Given Refusal
-given_ok (Ok x) s = Ok (given x s)
-given_ok (Err r) s = Err r
 
 -- the trial n at a place has candidate y, its next place is k, and the generator's word is w
 abbrev pub with_trial : State → ℕ → ℕ → Candidate → ℕ → ℕ → State
@@ -120,18 +99,16 @@ abbrev pub given_at : State → ℕ → ℕ → Candidate → ℕ → Made Param
 given_at s n place y k m =
     record { setting = m.out; draws = m.after.draws; state = with_trial s n place y (min (k + 1) s.n_dims) m.after.word }
 
--- by the trial's candidate, or the refusal
-abbrev pub served_with : State → Distribution → ℕ → ℕ → Result (Made Candidate) Refusal → Result Given Refusal
-served_with s lent n place (Ok a) =
-    Ok (given_at s n place a.out (next_at s place) (setting_for (dims_of s) lent (next_at s place) a.out a.after))
-served_with s lent n place (Err r) = Err r
+-- by the trial's candidate
+abbrev pub served_with : State → Distribution → ℕ → ℕ → Made Candidate → Given
+served_with s lent n place a = given_at s n place a.out (next_at s place) (setting_for (dims_of s) lent (next_at s place) a.out a.after)
 
 -- the candidate at the place if it is in use, else an extra's
-abbrev pub assigned_at : State → ℕ → Gen → Result (Made Candidate) Refusal
+abbrev pub assigned_at : State → ℕ → Gen → Made Candidate
 assigned_at s place g = candidate_for (ltb place (candidate_count s)) (get_or s.candidates place no_candidate) (dims_of s) g
 
 -- the whole call
-unfoldable pub raw_active : State → Distribution → ℕ → Gen → Result Given Refusal
+unfoldable pub raw_active : State → Distribution → ℕ → Gen → Given
 raw_active s lent n g = served_with s lent n (place_of s n) (assigned_at s (place_of s n) g)
 
 -- what a call after discovery finds: bounds of places, and distributions that pass 4 to 7
@@ -193,14 +170,14 @@ with_size s N cs =
     }
 
 -- with N slots, by the candidates
-unfoldable pub begun_with : State → ℕ → Made (List Candidate) → Result (Made State) Refusal
-begun_with s N m = unless_bad (any_bad m.out) (made (with_size s N m.out) m.after)
+abbrev pub begun_with : State → ℕ → Made (List Candidate) → Made State
+begun_with s N m = made (with_size s N m.out) m.after
 
 -- N, by the size rule
 abbrev pub slot_count : State → ℕ
 slot_count s = population_size_of s.setup (dims_of s)
 
-unfoldable pub raw_begin : State → Gen → Result (Made State) Refusal
+unfoldable pub raw_begin : State → Gen → Made State
 raw_begin s g = begun_with s (slot_count s) (random_candidates (space_of (dims_of s)) (slot_count s) g)
 
 -- what the end of discovery finds

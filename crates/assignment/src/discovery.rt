@@ -1,11 +1,11 @@
 // Discovery and its end (sampler/de.rs: `sample_discovery`, `finalize_discovery`).
-ghost use Rattle.std.specs.Prelude.{◌≡◌, ◌<◌, OnErr};
-ghost use Rattle.rng_util.specs.Gen.{handed_on};
+ghost use Rattle.std.specs.Prelude.{◌≡◌, ◌<◌};
+ghost use Rattle.rng_util.specs.Gen.{made};
 ghost use Rattle.distribution.specs.Validate.{verdict_of};
 ghost use Rattle.ledger.specs.Sample.{discovers};
 ghost use Rattle.assignment.specs.Raw.{start_of, given, raw_discovery, Complete, raw_begin};
 
-use distribution::{DimensionInfo, Distribution, ParamValue, Refusal};
+use distribution::{DimensionInfo, Distribution, ParamValue};
 use rng_util::Gen;
 use state::State;
 
@@ -32,24 +32,19 @@ pub fn sample_discovery(state: &mut State, d: Distribution, number: u64) -> (Par
     (setting, rng.draws)
 }
 
-// A call with another trial number ends discovery: N is fixed, and N random candidates are made. The generator is handed on;
-// a refusal has none, and leaves the state as it was.
+// A call with another trial number ends discovery: N is fixed, and N random candidates are made. What is handed on is the
+// generator.
 #[inline(never)]
-#[tactic(auto, unfolding(crate::specs::Raw::raw_begin, crate::specs::Raw::begun_with))]
-pub fn finalize_discovery(state: &mut State) -> Result<Gen, Refusal>
+#[tactic(auto, unfolding(crate::specs::Raw::raw_begin))]
+pub fn finalize_discovery(state: &mut State) -> Gen
     requires { Complete state.old }
-    ensures made { handed_on result state.new ≡ raw_begin state.old (start_of state.old) }
-    ensures kept { OnErr result (state.new ≡ state.old) }
+    ensures { made state.new result ≡ raw_begin state.old (start_of state.old) }
 {
     let mut rng = Gen::new(state.word);
     let space = candidates::search_space(state.dims());
     let n = selection::population_size(state.setup.population_size, space.n);
-    let candidates = candidates::generate_initial_population(&space, n, &mut rng);
-    if candidates::any_bad(&candidates[..n]) {
-        return Err(Refusal::EntryNan);
-    }
     state.discovered = true;
     state.n = n;
-    state.candidates = candidates;
-    Ok(rng)
+    state.candidates = candidates::generate_initial_population(&space, n, &mut rng);
+    rng
 }

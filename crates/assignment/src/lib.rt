@@ -5,16 +5,16 @@
 pub mod discovery;
 pub mod places;
 
-ghost use Rattle.std.specs.Prelude.{◌≡◌, ◌≤◌, ◌<◌, ◌^◌, length, OnErr};
+ghost use Rattle.std.specs.Prelude.{◌≡◌, ◌≤◌, ◌<◌, ◌^◌, length};
 ghost use Rattle.rng_util.specs.Gen.{made};
 ghost use Rattle.distribution.specs.Validate.{verdict_of};
 ghost use Rattle.candidates.specs.Space.{FewChoices};
 ghost use Rattle.kernel.specs.De.{decode_of};
 ghost use Rattle.state.specs.View.{dims_of};
-ghost use Rattle.assignment.specs.Raw.{decoded_by, setting_for, made_ok, assigned_at, given_ok, Ready, raw_active};
+ghost use Rattle.assignment.specs.Raw.{decoded_by, setting_for, assigned_at, given, Ready, raw_active};
 
 use candidates::Candidate;
-use distribution::{Ci, DimIdx, DimensionInfo, Distribution, ParamValue, Refusal};
+use distribution::{Ci, DimIdx, DimensionInfo, Distribution, ParamValue};
 use rng_util::Gen;
 use state::{State, TrialProgress};
 
@@ -59,36 +59,31 @@ pub fn setting_for(
 
 // The trial's own candidate if its place has one; else it is an extra, and gets a random one.
 #[tactic(auto, using(crate::proofs::Laws::spaces), unfolding(crate::specs::Raw::candidate_for))]
-fn assign_candidate(state: &State, place: usize, rng: &mut Gen) -> Result<Candidate, Refusal>
+fn assign_candidate(state: &State, place: usize, rng: &mut Gen) -> Candidate
     requires { (state.now.n_dims ≤ 16) × FewChoices (dims_of state.now) × (place < 224) × (rng.old.draws < 2 ^ 60) }
-    ensures { made_ok result rng.new ≡ assigned_at state.now place rng.old }
+    ensures { made result rng.new ≡ assigned_at state.now place rng.old }
 {
     if place < state.candidate_count() {
-        return Ok(state.candidates[place]);
+        return state.candidates[place];
     }
     let space = candidates::search_space(state.dims());
-    let extra = candidates::random_candidate(&space, rng);
-    if extra.has_nan() {
-        return Err(Refusal::EntryNan);
-    }
-    Ok(extra)
+    candidates::random_candidate(&space, rng)
 }
 
 // The call of a trial after discovery, once the generation has closed if it does: the setting, and the draws of the whole call.
-// A new trial's place is unused: next_dim is 0 there. A refusal leaves the state as it was.
+// A new trial's place is unused: next_dim is 0 there.
 #[tactic(auto, unfolding(crate::specs::Raw::raw_active))]
 pub fn sample_active(
     state: &mut State,
     lent: Distribution,
     number: u64,
     mut rng: Gen,
-) -> Result<(ParamValue, u64), Refusal>
+) -> (ParamValue, u64)
     requires { Ready state.old lent number rng }
-    ensures made { given_ok result state.new ≡ raw_active state.old lent number rng }
-    ensures kept { OnErr result (state.new ≡ state.old) }
+    ensures { given result state.new ≡ raw_active state.old lent number rng }
 {
     let place = places::place_of(state.trials(), number);
-    let candidate = assign_candidate(state, place, &mut rng)?;
+    let candidate = assign_candidate(state, place, &mut rng);
     let at = state.trials[place].next_dim;
     let setting = setting_for(state.dims(), lent, DimIdx(at), &candidate, &mut rng);
     // One dimension on, and no further than past the last.
@@ -97,5 +92,5 @@ pub fn sample_active(
     state.trials[place] = TrialProgress { number, next_dim };
     state.n_trials = state.n_trials.max(place + 1);
     state.word = rng.word;
-    Ok((setting, rng.draws))
+    (setting, rng.draws)
 }

@@ -1,4 +1,3 @@
 pub mod Space
 pub mod Candidate
 pub mod Random
-pub mod Nan

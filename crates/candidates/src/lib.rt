@@ -9,7 +9,6 @@ ghost use Rattle.common.specs.Bounds.{zero_f};
 ghost use Rattle.candidates.specs.Candidate.{blank_candidate, entry_of, choice_of, continuous_place};
 ghost use Rattle.candidates.specs.Space.{continuous_count, FewChoices, space_of};
 ghost use Rattle.candidates.specs.Random.{random_entry, random_entries, random_choice, random_choices, random_candidate, random_candidates};
-ghost use Rattle.candidates.specs.Nan.{any_nan, any_bad};
 
 use common::Bounds;
 use distribution::{Ci, DimIdx, DimensionInfo};
@@ -46,14 +45,6 @@ impl Candidate {
         ensures { result ≡ choice_of self.now at }
     {
         self.choices.get(at.0).copied().unwrap_or(0)
-    }
-
-    // Whether an entry is NaN.
-    #[tactic(auto, unfolding(crate::specs::Nan::any_nan))]
-    pub fn has_nan(&self) -> bool
-        ensures { result ≡ any_nan self.now.x }
-    {
-        self.x.iter().any(|v| v.is_nan())
     }
 }
 
@@ -169,12 +160,4 @@ pub fn generate_initial_population(space: &Space, n: usize, rng: &mut Gen) -> [C
     rng_util::many(Candidate::blank(), n, rng, |_, rng| {
         random_candidate(space, rng)
     })
-}
-
-// Whether an entry of the candidates is NaN: refusal 11.
-#[tactic(auto, unfolding(crate::specs::Nan::any_bad))]
-pub fn any_bad(candidates: &[Candidate]) -> bool
-    ensures { result ≡ any_bad candidates.now }
-{
-    candidates.iter().any(|c| c.has_nan())
 }

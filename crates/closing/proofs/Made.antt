@@ -1,5 +1,4 @@
 -- What the parts of a closing make, put together: the calls' results are the definition's, for N parents and N new candidates stand in their arrays' first places.
-use Rattle.std.specs.Prelude.{Ok, Err}
 use mathlib.Core.Path.{◌≡◌, sym, ap, ap₂, ◌∙◌}
 use mathlib.Core.Bool.{Bool, true, false, cond}
 use mathlib.Core.List.{List}
@@ -14,9 +13,7 @@ use Rattle.std.proofs.lemmas.Slice.Zip.{length-zip}
 use Rattle.rng_util.specs.Gen.{Made, made}
 use Rattle.rng_util.specs.Many.{padded}
 use Rattle.rng_util.specs.declared.Gen.{Gen}
-use Rattle.distribution.specs.declared.Refusal.TheVariants.{EntryNan}
 use Rattle.candidates.specs.Candidate.{blank_candidate}
-use Rattle.candidates.specs.Nan.{any_bad}
 use Rattle.candidates.specs.Space.{space_of}
 use Rattle.candidates.specs.declared.Candidate.{Candidate}
 use Rattle.candidates.specs.declared.Space.{Space}
@@ -28,7 +25,6 @@ use Rattle.selection.specs.Select.{selected, stored}
 use Rattle.selection.proofs.Best.{best-below}
 use Rattle.selection.proofs.Slots.{stored_one, stored-zip, selected_one, selected-zip}
 use Rattle.ledger.specs.Closing.{up, new_idle}
-use Rattle.kernel.proofs.Fit.{nexts_length}
 use Rattle.state.specs.Blank.{blank_trial}
 use Rattle.state.specs.declared.State.{State}
 use Rattle.closing.specs.Raw.{parents_after, became_smaller, settled, raw_parents, raw_slots, raw_nexts, raw_close}
@@ -88,7 +84,7 @@ module _ (s : State) (rs : List Float) (o : Slots) (p : o ≡ raw_slots s rs) (f
       let k : length (values (raw_parents s rs)) ≡ s.n = length-map (raw_parents s rs) (λ (m : Member). m.value) ∙ counted long in
       omega (arith, best-is, best-below (values (raw_parents s rs)) (omega arith))
 
-  module _ (long : s.n ≤ length o.parents) (sp : Space) (q : sp ≡ space_of (take s.n_dims s.dims)) (g g' : Gen) (cs : List Candidate)
+  module _ (sp : Space) (q : sp ≡ space_of (take s.n_dims s.dims)) (g g' : Gen) (cs : List Candidate)
       (h : made cs g' ≡ padded 224 blank_candidate (next_candidates s.setup (take s.n o.parents) o.best sp g)) where
     abbrev nexts : Made (List Candidate)
     nexts = raw_nexts s (raw_parents s rs) g
@@ -96,39 +92,26 @@ module _ (s : State) (rs : List Float) (o : Slots) (p : o ≡ raw_slots s rs) (f
     next-is : made cs g' ≡ padded 224 blank_candidate nexts
     next-is = h ∙ λ i. padded 224 blank_candidate (next_candidates s.setup (first-parents i) (best-is i) (q i) g)
 
-    first-nexts : take s.n cs ≡ nexts.out
-    first-nexts =
-        ap (λ (m : Made (List Candidate)). take s.n m.out) next-is
-        ∙ take_at nexts.out (replicate (224 - length nexts.out) blank_candidate) s.n (nexts_length (take s.n_dims s.dims) s.setup (raw_parents s rs) _ g ∙ counted long)
+    -- the state as the code puts it together
+    abbrev with-slots : List Candidate → Slots → State
+    with-slots ys k =
+        record {
+          setup = s.setup;
+          first = s.first;
+          discovered = s.discovered;
+          n = s.n;
+          n_dims = s.n_dims;
+          dims = s.dims;
+          candidates = ys;
+          parents = k.parents;
+          n_trials = 0;
+          trials = replicate 224 blank_trial;
+          best = k.best;
+          word = s.word;
+          closed = k.closed;
+          idle = k.idle;
+        }
 
-    module _ (t : Bool) (a : t ≡ any_bad (take s.n cs)) where
-      bad-is : any_bad nexts.out ≡ t
-      bad-is = sym (a ∙ ap any_bad first-nexts)
-
-      pub closed-not : t ≡ true → Err EntryNan ≡ raw_close s rs g
-      unfolding raw_close
-      closed-not f = rw (bad-is ∙ f)
-
-      -- the state as the code puts it together
-      abbrev with-slots : List Candidate → Slots → State
-      with-slots ys k =
-          record {
-            setup = s.setup;
-            first = s.first;
-            discovered = s.discovered;
-            n = s.n;
-            n_dims = s.n_dims;
-            dims = s.dims;
-            candidates = ys;
-            parents = k.parents;
-            n_trials = 0;
-            trials = replicate 224 blank_trial;
-            best = k.best;
-            word = s.word;
-            closed = k.closed;
-            idle = k.idle;
-          }
-
-      pub closed-so : t ≡ false → Ok (made (with-slots cs o) g') ≡ raw_close s rs g
-      unfolding raw_close
-      closed-so f = (λ j. Ok (made (with-slots (next-is j).out (p j)) (next-is j).after)) ∙ rw (bad-is ∙ f)
+    pub closed-so : made (with-slots cs o) g' ≡ raw_close s rs g
+    unfolding raw_close
+    closed-so = λ j. made (with-slots (next-is j).out (p j)) (next-is j).after

@@ -1,8 +1,8 @@
 -- A closing on a state that is laid out is the ledger's closing, laid out. Field by field: the first N places of each array are the plain state's lists.
-use Rattle.std.specs.Prelude.{Option, Some, None, Result, Ok, Err}
+use Rattle.std.specs.Prelude.{Some}
 use mathlib.Core.Path.{◌≡◌, refl, sym, ap, ap₂, ◌∙◌}
 use mathlib.Core.Logic.{◌≢◌}
-use mathlib.Core.Bool.{Bool, true, false, cond}
+use mathlib.Core.Bool.{cond}
 use mathlib.Core.List.{List, map}
 use Prim.Native.Nat.{ℕ, zero, suc, ◌-◌, ◌≤◌}
 use native.Mathlib.Omega.{arith}
@@ -11,11 +11,8 @@ use lib.Ieee.{Float, nan, lt}
 use lib.ListN.{length, take, replicate, length-map}
 use lib.Seq.{take_at, take-append-le, length-take-le}
 use Rattle.rng_util.specs.Gen.{Made, made}
-use Rattle.distribution.specs.declared.Refusal.{Refusal}
-use Rattle.distribution.specs.declared.Refusal.TheVariants.{EntryNan}
 use Rattle.rng_util.specs.Many.{pad_to}
 use Rattle.candidates.specs.Candidate.{blank_candidate}
-use Rattle.candidates.specs.Nan.{any_bad}
 use Rattle.candidates.specs.Space.{space_of}
 use Rattle.candidates.specs.declared.Candidate.{Candidate}
 use Rattle.evolution.specs.Trial.{next_candidates}
@@ -28,9 +25,9 @@ use Rattle.ledger.specs.Kernel as K
 use Rattle.ledger.specs.State as Plain
 use Rattle.ledger.specs.Closing as L
 use Rattle.ledger.specs.Soundness.{Running}
-use Rattle.ledger.specs.Words.{◌>>=◌, All}
+use Rattle.ledger.specs.Words.{All}
 use Rattle.ledger.proofs.Slots.{store-all, select-all}
-use Rattle.kernel.specs.De.{de, code_gen, member_of, unless_nan, nexts_of}
+use Rattle.kernel.specs.De.{de, code_gen, member_of, nexts_of}
 use Rattle.kernel.proofs.Link.{link-store, link-select, link-best, link-least}
 use Rattle.state.specs.Blank.{blank_dim}
 use Rattle.state.specs.View.{laid, size_number}
@@ -39,10 +36,9 @@ use Rattle.closing.specs.Raw.{parents_after, became_smaller, settled, raw_parent
 use Rattle.closing.specs.declared.Slots.{Slots}
 use Rattle.closing.proofs.Extras.{stored-take, selected-take}
 
--- what the ledger's closing gives, laid out: `None` is refusal 11
-abbrev pub laid_closed : Setup → Option (K.Made ℕ (Plain.State de)) → Result (Made State) Refusal
-laid_closed S None = Err EntryNan
-laid_closed S (Some c) = Ok (made (laid S c.out) (code_gen c.gen))
+-- what the ledger's closing gives, laid out
+abbrev pub laid_closed : Setup → K.Made ℕ (Plain.State de) → Made State
+laid_closed S c = made (laid S c.out) (code_gen c.gen)
 
 module _ (S : Setup) (m : Plain.State de) (N : ℕ) (sized : m.size ≡ Some N) (run : Running de S N m) (rs : List Float) (many : N ≤ length rs) (numbers : All (λ r. r ≢ nan) (take N rs)) where
   abbrev row : List Float
@@ -138,9 +134,4 @@ module _ (S : Setup) (m : Plain.State de) (N : ℕ) (sized : m.size ≡ Some N) 
   unfolding raw_close L.close nexts_of laid
   close-is g =
       ap (closed_with (laid S m) (raw_slots (laid S m) rs)) (ap (λ (ps : List Member). raw_nexts (laid S m) ps (code_gen g)) parents-are ∙ nexts-are g)
-      ∙ go (any_bad (nexts g).out)
-    where
-      go : (b : Bool) → cond {A = Result (Made State) Refusal} b (Err EntryNan) (Ok (made (reopened (laid S m) (raw_slots (laid S m) rs) (nexts g).out) (nexts g).after))
-          ≡ laid_closed S (unless_nan b (nexts g) >>= λ (k : K.Made ℕ (List Candidate)). Some (record { out = L.reopen de m slots k.out; gen = k.gen }))
-      go true = refl
-      go false = ap (λ (s : State). Ok (made s (nexts g).after)) (reopened-is (nexts g).out)
+      ∙ ap (λ (s : State). made s (nexts g).after) (reopened-is (nexts g).out)

@@ -1,14 +1,11 @@
 -- A closing on the code's own state: its arrays, of which the first n places count. proofs/Refine says that it is the ledger's `close` on the plain state.
-use Rattle.std.specs.Prelude.{ℕ, ◌≤◌, Bool, ◌&&◌, cond, List, eqb, leb, Float, take, replicate, Option, is_some, Result, Ok, Err}
+use Rattle.std.specs.Prelude.{ℕ, ◌≤◌, Bool, ◌&&◌, cond, List, eqb, leb, Float, take, replicate, Option, is_some}
 use Rattle.std.specs.Float.Ieee.{lt}
 use Rattle.std.specs.List.{list_all}
 use Rattle.rng_util.specs.Gen.{Made, made}
 use Rattle.rng_util.specs.Many.{pad_to}
 use Rattle.rng_util.specs.declared.Gen.{Gen}
-use Rattle.distribution.specs.declared.Refusal.{Refusal}
-use Rattle.distribution.specs.declared.Refusal.TheVariants.{EntryNan}
 use Rattle.candidates.specs.Candidate.{blank_candidate}
-use Rattle.candidates.specs.Nan.{any_bad}
 use Rattle.candidates.specs.Space.{FewChoices, space_of}
 use Rattle.candidates.specs.declared.Candidate.{Candidate}
 use Rattle.evolution.specs.Trial.{next_candidates}
@@ -78,12 +75,12 @@ reopened s o cs =
       idle = o.idle;
     }
 
--- the state, and the generator after the draws; or refusal 11, "a new candidate's entry is NaN"
-abbrev pub closed_with : State → Slots → Made (List Candidate) → Result (Made State) Refusal
-closed_with s o m = cond (any_bad m.out) (Err EntryNan) (Ok (made (reopened s o m.out) m.after))
+-- the state, and the generator after the draws
+abbrev pub closed_with : State → Slots → Made (List Candidate) → Made State
+closed_with s o m = made (reopened s o m.out) m.after
 
 -- step 6 on the state s, where the generation closes with the results in rs
-unfoldable pub raw_close : State → List Float → Gen → Result (Made State) Refusal
+unfoldable pub raw_close : State → List Float → Gen → Made State
 raw_close s rs g = closed_with s (raw_slots s rs) (raw_nexts s (raw_parents s rs) g)
 
 -- what a closing finds: N slots, 4 to 160, and dimensions that pass 7

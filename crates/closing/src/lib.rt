@@ -1,15 +1,14 @@
 // Step 6: a generation closes (sampler/de.rs, `maybe_update_generation`).
 #![tactic(auto)]
 
-ghost use Rattle.std.specs.Prelude.{◌≡◌, ◌≤◌, length, take, is_some, OnErr};
-ghost use Rattle.rng_util.specs.Gen.{fresh, handed_on};
+ghost use Rattle.std.specs.Prelude.{◌≡◌, ◌≤◌, length, take, is_some};
+ghost use Rattle.rng_util.specs.Gen.{fresh, made};
 ghost use Rattle.ledger.specs.Closing.{new_idle};
 ghost use Rattle.selection.specs.Records.{members_rec};
 ghost use Rattle.std.specs.List.{list_all};
 ghost use Rattle.closing.specs.Raw.{closes_now, parents_after, raw_parents, raw_slots, Closable, raw_close};
 
 use candidates::Candidate;
-use distribution::Refusal;
 use evolution::Member;
 use rng_util::Gen;
 use state::{State, TrialProgress};
@@ -91,14 +90,13 @@ fn settle(state: &State, results: &[f64]) -> Slots
     }
 }
 
-// The generation closes with these results, and the next one begins: new candidates, and no trial yet. The generator is handed
-// on; a refusal has none, and leaves the state as it was.
+// The generation closes with these results, and the next one begins: new candidates, and no trial yet. What is handed on is
+// the generator.
 #[inline(never)]
 #[tactic(auto, unfolding(crate::specs::Raw::raw_close))]
-pub fn close(state: &mut State, results: &[f64]) -> Result<Gen, Refusal>
+pub fn close(state: &mut State, results: &[f64]) -> Gen
     requires { Closable state.old × (state.old.n ≤ length results.now) }
-    ensures made { handed_on result state.new ≡ raw_close state.old results.now (fresh state.old.word) }
-    ensures kept { OnErr result (state.new ≡ state.old) }
+    ensures { made state.new result ≡ raw_close state.old results.now (fresh state.old.word) }
 {
     let n = state.n;
     let Slots {
@@ -109,22 +107,18 @@ pub fn close(state: &mut State, results: &[f64]) -> Result<Gen, Refusal>
     } = settle(state, results);
     let mut rng = Gen::new(state.word);
     let space = candidates::search_space(state.dims());
-    let candidates = evolution::next_candidates(
+    state.candidates = evolution::next_candidates(
         &state.setup,
         &parents[..n],
         best,
         &space,
         &mut rng,
     );
-    if candidates::any_bad(&candidates[..n]) {
-        return Err(Refusal::EntryNan);
-    }
-    state.candidates = candidates;
     state.parents = parents;
     state.n_trials = 0;
     state.trials = [TrialProgress::blank(); 224];
     state.best = best;
     state.closed = closed;
     state.idle = idle;
-    Ok(rng)
+    rng
 }

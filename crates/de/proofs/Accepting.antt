@@ -1,5 +1,5 @@
 -- What `accept` is handed, and what it makes: its state is its view laid out, so each part is the definition's on the view (Whole).
-use Rattle.std.specs.Prelude.{Option, Some, None, IsSome, Result, Ok, Err, OnErr, is_ok}
+use Rattle.std.specs.Prelude.{Option, Some, None, Ok, is_ok}
 use Prim.Native.Nat.{ℕ, ◌+◌, ◌≤◌, ◌<◌}
 use mathlib.Core.Path.{◌≡◌, refl, sym, ap, subst, ◌∙◌}
 use mathlib.Core.Bool.{Bool, true, false, not, ◌&&◌}
@@ -12,8 +12,6 @@ use lib.ListN.{length, take}
 use Rattle.rng_util.specs.Gen.{made}
 use Rattle.rng_util.specs.declared.Gen.{Gen}
 use Rattle.distribution.specs.Validate.{judged, verdict_of}
-use Rattle.distribution.specs.declared.ParamValue.{ParamValue}
-use Rattle.distribution.specs.declared.Refusal.{Refusal}
 use Rattle.distribution.specs.declared.Distribution.{Distribution}
 use Rattle.evolution.specs.declared.Setup.{Setup}
 use Rattle.ledger.specs.Words.{or_else, refuse_if, has}
@@ -24,13 +22,13 @@ use Rattle.ledger.specs.Soundness.{Sound}
 use Rattle.ledger.proofs.Lists.{none≢some}
 use Rattle.kernel.specs.De.{de, code_gen}
 use Rattle.kernel.proofs.Kernel.{de-laws}
-use Rattle.state.specs.Setup.{setup_verdict}
+use Rattle.kernel.specs.Setup.{setup_verdict}
 use Rattle.state.specs.Sound.{Few}
 use Rattle.state.specs.View.{view, laid, size_in}
 use Rattle.state.specs.declared.State.{State}
 use Rattle.state.proofs.Tidy as Tidy
-use Rattle.assignment.specs.Raw.{given_ok, Ready, Complete, raw_active, raw_discovery, raw_begin, start_of}
-use Rattle.assignment.specs.Laid.{laid_accepted}
+use Rattle.assignment.specs.Raw.{Ready, Complete, raw_active, raw_discovery, raw_begin, start_of}
+use Rattle.assignment.specs.Laid.{laid_given}
 use Rattle.assignment.proofs.Meet.{judged-valid}
 use Rattle.closing.specs.Raw.{Closable, raw_close}
 use Rattle.de.specs.Gathered.{sampling_on, discovery_on, refusal_on, accept_on, accepted_on, counted_in, refusal}
@@ -46,9 +44,6 @@ not-refused : (b : Bool) (r : ℕ) → refuse_if b r ≡ None → b ≡ false
 not-refused true r e = absurd (none≢some (sym e))
 not-refused false r e = refl
 
-some-not : {A : Type 0} {o : Option A} → IsSome o → o ≡ None → ⊥
-some-not h e = cc (h, e)
-
 -- s is the state that comes in
 module _ (s : State) (d : Distribution) (n : ℕ) (results : Option (List Float)) (q : Acceptable s d n results) where
   -- the generator then
@@ -62,7 +57,7 @@ module _ (s : State) (d : Distribution) (n : ℕ) (results : Option (List Float)
   m = view s
 
   -- what the definition makes of the call
-  abbrev accepted : Option (Accepted de)
+  abbrev accepted : Accepted de
   accepted = accepted_on s d n results
 
   sound : Sound de S m
@@ -93,22 +88,9 @@ module _ (s : State) (d : Distribution) (n : ℕ) (results : Option (List Float)
   valid : verdict_of d ≡ Ok tt
   valid = judged-valid d good
 
-  -- a state and a generator from which an open generation serves the call as the definition accepts it; only where it is refused need they be as they came
-  pub record Opened (t : State) (h : Gen) : Type 0 where
-    pub ready : Ready t d n h
-    pub serves : raw_active t d n h ≡ laid_accepted S accepted
-    pub unmoved : accepted ≡ None → t ≡ s
-
-  pub served : (t : State) (h : Gen) → Opened t h → (a : Result (ParamValue × ℕ) Refusal) (t' : State) → given_ok a t' ≡ raw_active t d n h → given_ok a t' ≡ laid_accepted S accepted
-  served t h o a t' e = e ∙ o.serves
-
-  pub served_kept : (t : State) (h : Gen) → Opened t h → (a : Result (ParamValue × ℕ) Refusal) (t' : State) → given_ok a t' ≡ raw_active t d n h → OnErr a (t' ≡ t) → OnErr a (t' ≡ s)
-  served_kept t h o a t' e k = go a accepted (served t h o a t' e) o.unmoved k
-    where
-      go : (a : Result (ParamValue × ℕ) Refusal) (p : Option (Accepted de)) → given_ok a t' ≡ laid_accepted S p → (p ≡ None → t ≡ s) → OnErr a (t' ≡ t) → OnErr a (t' ≡ s)
-      go (Ok x) p e u k = tt
-      go (Err r) None e u k = k ∙ u refl
-      go (Err r) (Some y) e u k = absurd cc
+  -- a state and a generator from which an open generation serves the call as the definition accepts it
+  abbrev pub Opened : State → Gen → Type 0
+  Opened t h = Ready t d n h × (raw_active t d n h ≡ laid_given S accepted)
 
   -- ---- after discovery
 
@@ -142,17 +124,10 @@ module _ (s : State) (d : Distribution) (n : ℕ) (results : Option (List Float)
       made-laid : raw_close s rs g ≡ raw_close (laid S m) rs (code_gen (Plain.start_gen de m))
       made-laid = λ i. raw_close (is i) rs (start_is i)
 
-      pub closed-opened : (t : State) (h : Gen) → Ok (made t h) ≡ raw_close s rs g → Opened t h
+      pub closed-opened : (t : State) (h : Gen) → made t h ≡ raw_close s rs g → Opened t h
       closed-opened t h e =
           let by = Whole.closed_opened de-laws S m ok sound d good n s.n sized rs many counts.numbers t h (e ∙ made-laid) in
-          record {
-            ready = by.0;
-            serves = by.1 ∙ ap (laid_accepted S) (sym runs-row);
-            unmoved = λ z. absurd (some-not by.2 (sym runs-row ∙ z));
-          }
-
-      pub closed-missing : (r : Refusal) → Err r ≡ raw_close s rs g → Err r ≡ laid_accepted S accepted
-      closed-missing r e = Whole.not-closed de-laws S m ok sound d good n s.n sized rs many counts.numbers r (e ∙ made-laid) ∙ ap (laid_accepted S) (sym runs-row)
+          (by.0, by.1 ∙ ap (laid_given S) (sym runs-row))
 
     -- none closes
     module _ (no : results ≡ None) where
@@ -161,15 +136,12 @@ module _ (s : State) (d : Distribution) (n : ℕ) (results : Option (List Float)
       room = not-refused _ 10 (sym (ap (λ (z : Option ℕ). refusal_on z m n None) sized) ∙ ap (λ (o : Option (List Float)). refusal_on m.size m n (counted_in s o)) (sym no) ∙ refusals.1)
 
       pub plain-opened : Opened s g
-      plain-opened =
-          record {
-            ready = subst (λ (x : State). Ready x d n g) (sym is) (rw start_is (Whole.plain_ready de-laws S m ok sound d good n s.n sized room));
-            serves =
-                (λ i. raw_active (is i) d n (start_is i))
-                ∙ Whole.plain-is de-laws S m ok sound d good n s.n sized room
-                ∙ ap (laid_accepted S) (sym (ap (λ (o : Option (List Float)). accept_on S m.size m n d (counted_in s o)) no ∙ runs None));
-            unmoved = λ z. refl;
-          }
+      plain-opened = (
+        subst (λ (x : State). Ready x d n g) (sym is) (rw start_is (Whole.plain_ready de-laws S m ok sound d good n s.n sized room)),
+        (λ i. raw_active (is i) d n (start_is i))
+            ∙ Whole.plain-is de-laws S m ok sound d good n s.n sized room
+            ∙ ap (laid_given S) (sym (ap (λ (o : Option (List Float)). accept_on S m.size m n d (counted_in s o)) no ∙ runs None)),
+      )
 
   -- ---- in discovery
 
@@ -197,11 +169,11 @@ module _ (s : State) (d : Distribution) (n : ℕ) (results : Option (List Float)
       unfolding laid
       discovery-requires = (subst (λ (x : State). x.n_dims < 16) (sym is) few_dims, valid)
 
-      pub discovery-returns : Ok (raw_discovery s d n g) ≡ laid_accepted S accepted
+      pub discovery-returns : raw_discovery s d n g ≡ laid_given S accepted
       discovery-returns =
-          (λ i. Ok (raw_discovery (is i) d n (start_is i)))
+          (λ i. raw_discovery (is i) d n (start_is i))
           ∙ Whole.discovery-is de-laws S m ok sound d good n unsized few_dims
-          ∙ ap (laid_accepted S) (sym (finds true (sym first-is ∙ yes) _))
+          ∙ ap (laid_given S) (sym (finds true (sym first-is ∙ yes) _))
 
     module _ (no : discovers s.first n ≡ false) where
       pub begin-requires : Complete s
@@ -213,14 +185,7 @@ module _ (s : State) (d : Distribution) (n : ℕ) (results : Option (List Float)
       accepts : accepted ≡ discovery_on S false m n d
       accepts = finds false (sym first-is ∙ no) _
 
-      pub begun-opened : (t : State) (h : Gen) → Ok (made t h) ≡ raw_begin s g → Opened t h
+      pub begun-opened : (t : State) (h : Gen) → made t h ≡ raw_begin s g → Opened t h
       begun-opened t h e =
           let by = Whole.begun_opened de-laws S m ok sound d good n unsized t h (e ∙ first-laid) in
-          record {
-            ready = by.0;
-            serves = by.1 ∙ ap (laid_accepted S) (sym accepts);
-            unmoved = λ z. absurd (some-not by.2 (sym accepts ∙ z));
-          }
-
-      pub begun-missing : (r : Refusal) → Err r ≡ raw_begin s g → Err r ≡ laid_accepted S accepted
-      begun-missing r e = Whole.not-begun de-laws S m ok sound d good n unsized r (e ∙ first-laid) ∙ ap (laid_accepted S) (sym accepts)
+          (by.0, by.1 ∙ ap (laid_given S) (sym accepts))

@@ -4,7 +4,7 @@ use Rattle.std.specs.Prelude.{Option, Some, None, is_none, slice_get, is_ok}
 use Prim.Native.Nat.{ℕ, ◌+◌, ◌*◌, ◌≤◌, min}
 use native.Mathlib.Nat.{le_trans, mul-le-mul}
 use native.Mathlib.Omega.{arith}
-use mathlib.Core.Path.{◌≡◌, refl, sym, ap, subst, ◌∙◌}
+use mathlib.Core.Path.{◌≡◌, refl, ap, subst, ◌∙◌}
 use mathlib.Core.Bool.{Bool, true, false, ◌&&◌, ◌||◌, cond}
 use mathlib.Core.List.{List}
 use borrow.Author.Tests.{leb-true, ne_eqb}
@@ -21,17 +21,17 @@ use Rattle.ledger.specs.Words.{or_else}
 use Rattle.ledger.specs.Call.{Call, call_refusal}
 use Rattle.ledger.specs.State as Plain
 use Rattle.ledger.specs.State.{numbers, start_gen}
-use Rattle.ledger.specs.Closing.{counted, settle, close}
-use Rattle.ledger.specs.Assignment.{place_in, Accepted, assign}
+use Rattle.ledger.specs.Closing.{counted, close}
+use Rattle.ledger.specs.Assignment.{place_in, assign}
 use Rattle.ledger.specs.Soundness.{Sound}
 use Rattle.ledger.specs.Sample.{sampling, state_refusal, accept, outcome, step}
-use Rattle.ledger.proofs.Lists.{some_inj, bind-some}
+use Rattle.ledger.proofs.Lists.{none≢some}
 use Rattle.ledger.proofs.Sound.{step-sound}
 use Rattle.kernel.specs.Ceiling.{closes, has_candidate, per_slot, generation_ceiling, step_ceiling}
-use Rattle.kernel.specs.De.{de, extra_of, nexts_of}
+use Rattle.kernel.specs.De.{de}
 use Rattle.kernel.proofs.Ceiling.{step-few}
 use Rattle.kernel.proofs.Kernel.{de-laws}
-use Rattle.state.specs.Setup.{setup_verdict}
+use Rattle.kernel.specs.Setup.{setup_verdict}
 use Rattle.state.specs.Sound.{clean_test, sound_state}
 use Rattle.state.specs.View.{size_in, size_number, view, laid}
 use Rattle.state.specs.declared.State.{State}
@@ -95,29 +95,28 @@ module _ (S : Setup) (c : Call de) where
   abbrev Keeps : Plain.State de → Plain.State de → Type 0
   Keeps m t = (t.size ≡ m.size) × (t.dims ≡ m.dims)
 
-  assign-keeps : (m : Plain.State de) (g : L.Gen ℕ) (o : Option Candidate) (a : Accepted de) → assign de S m c g o ≡ Some a → Keeps m a.state
+  assign-keeps : (m : Plain.State de) (g : L.Gen ℕ) (o : Option Candidate) → Keeps m (assign de S m c g o).state
   unfolding assign
-  assign-keeps m g (Some y) a e = subst (λ (x : Accepted de). Keeps m x.state) (some_inj e) (refl, refl)
-  assign-keeps m g None a e = subst (λ (x : Accepted de). Keeps m x.state) (some_inj (bind-some (extra_of m.dims g) _ a e).2) (refl, refl)
+  assign-keeps m g (Some y) = (refl, refl)
+  assign-keeps m g None = (refl, refl)
 
-  close-keeps : (m : Plain.State de) (g : L.Gen ℕ) (o : Option (List Float)) (r : L.Made ℕ (Plain.State de)) → close de S m g o ≡ Some r → Keeps m r.out
+  close-keeps : (m : Plain.State de) (g : L.Gen ℕ) (o : Option (List Float)) → Keeps m (close de S m g o).out
   unfolding close
-  close-keeps m g None r e = subst (λ (x : L.Made ℕ (Plain.State de)). Keeps m x.out) (some_inj e) (refl, refl)
-  close-keeps m g (Some row) r e =
-      let o = settle de m.slots m.candidates row in
-      subst (λ (x : L.Made ℕ (Plain.State de)). Keeps m x.out) (some_inj (bind-some (nexts_of S m.dims o.parents o.best g) _ r e).2) (refl, refl)
+  close-keeps m g None = (refl, refl)
+  close-keeps m g (Some row) = (refl, refl)
 
   step_keeps : (m : Plain.State de) (N : ℕ) → m.size ≡ Some N → Keeps m (step de S m c).state
   unfolding step accept sampling
-  step_keeps m N sized = go (or_else (call_refusal de c) (state_refusal de m.size m c)) (accept de S m.size m c) (ap (λ (z : Option ℕ). accept de S z m c) (sym sized))
+  step_keeps m N sized = go (or_else (call_refusal de c) (state_refusal de m.size m c)) m.size sized
     where
-      go : (r : Option ℕ) (o : Option (Accepted de)) → accept de S (Some N) m c ≡ o → Keeps m (outcome de m r o).state
-      go (Some r) o e = (refl, refl)
-      go None None e = (refl, refl)
-      go None (Some a) e =
-          let p = bind-some (close de S m (start_gen de m) (counted de N (numbers m.trials) c.history)) _ a e in
-          let k = close-keeps m (start_gen de m) (counted de N (numbers m.trials) c.history) p.0 p.1 in
-          let j = assign-keeps p.0.out p.0.gen (slice_get p.0.out.candidates (place_in (numbers p.0.out.trials) c.number)) a p.2 in
+      go : (r z : Option ℕ) → z ≡ Some N → Keeps m (outcome de m r (accept de S z m c)).state
+      go (Some r) z e = (refl, refl)
+      go None None e = absurd (none≢some e)
+      go None (Some M) e =
+          let row = counted de M (numbers m.trials) c.history in
+          let p = close de S m (start_gen de m) row in
+          let k = close-keeps m (start_gen de m) row in
+          let j = assign-keeps p.out p.gen (slice_get p.out.candidates (place_in (numbers p.out.trials) c.number)) in
           (j.0 ∙ k.0, j.1 ∙ k.1)
 
 -- ---- N and D in the code's state
@@ -151,7 +150,8 @@ module _ (s : State) (d : Distribution) (n : ℕ) (h : List CompletedTrial) wher
       go false e = omega arith
       go true e =
           let v = view-sound s e de-laws in
-          le_trans (step-few S (view s) c v) (in-call S S.strategy (view s) (step de S (view s) c).state n (step-sound de de-laws S (view s) c v) (setup-valid s e))
+          let ok = setup-valid s e in
+          le_trans (step-few S (view s) c v) (in-call S S.strategy (view s) (step de S (view s) c).state n (step-sound de de-laws S ok (view s) c v) ok)
 
   -- whatever the state, the distribution, the trial and the history
   pub never-more : (sample_of s d n h).draws ≤ most_draws
@@ -173,11 +173,12 @@ module _ (s : State) (d : Distribution) (n : ℕ) (h : List CompletedTrial) wher
       go true e =
           let v = view-sound s e de-laws in
           let t = (step de S (view s) c).state in
-          let u = step-sound de de-laws S (view s) c v in
+          let ok = setup-valid s e in
+          let u = step-sound de de-laws S ok (view s) c v in
           let k = step_keeps S c (view s) s.n (view-size s f) in
           let sized : t.size ≡ Some s.n = k.0 ∙ view-size s f in
           let few : length t.dims ≤ s.n_dims = omega (arith, ap length k.1, view-dims s) in
           let at : (step de S (view s) c).draws ≤ ceiling_for S.strategy s.n (length t.dims) =
           subst (λ (z : Option ℕ). (step de S (view s) c).draws ≤ ceiling_for S.strategy (size_number z) (length t.dims)) sized
-          (le_trans (step-few S (view s) c v) (in-call S S.strategy (view s) t n u (setup-valid s e))) in
-          le_trans at (ceiling-grows S.strategy s.n (length t.dims) s.n_dims (slots-few S t u (setup-valid s e) s.n sized) few (few_dims s e))
+          (le_trans (step-few S (view s) c v) (in-call S S.strategy (view s) t n u ok)) in
+          le_trans at (ceiling-grows S.strategy s.n (length t.dims) s.n_dims (slots-few S t u ok s.n sized) few (few_dims s e))

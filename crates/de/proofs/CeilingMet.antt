@@ -19,7 +19,6 @@ use Rattle.distribution.specs.declared.Distribution.TheVariants.{Float as FloatD
 use Rattle.distribution.proofs.Examples.{dec}
 use Rattle.common.specs.Random.{random_setting}
 use Rattle.candidates.specs.Candidate.{packed}
-use Rattle.candidates.specs.Nan.{any_nan, any_bad}
 use Rattle.candidates.specs.Random.{random_entry, random_entries, random_choice, random_choices, random_candidate, random_candidates}
 use Rattle.candidates.specs.Space.{continuous_dims, space_of}
 use Rattle.history.specs.declared.CompletedTrial.{CompletedTrial}
@@ -38,9 +37,9 @@ use Rattle.ledger.proofs.Sound.{step-sound}
 use Rattle.ledger.proofs.SoundTest.{sound-test}
 use Rattle.kernel.specs.Ceiling.{step_ceiling}
 use Rattle.kernel.specs.De.{de, firsts_of, extra_of}
-use Rattle.kernel.specs.Fits.{fits, entries_fit, choices_fit}
+use Rattle.kernel.specs.Fits.{fits, entry_fits, entries_fit, choices_fit}
 use Rattle.kernel.proofs.Kernel.{de-laws}
-use Rattle.state.specs.Setup.{setup_verdict}
+use Rattle.kernel.specs.Setup.{setup_verdict}
 use Rattle.state.specs.View.{view, laid}
 use Rattle.state.specs.declared.State.{State}
 use Rattle.state.proofs.Laid.{view-laid, laid-sound}
@@ -100,7 +99,7 @@ module _ (m : Plain.State de) (test : sound_test de setup m ≡ true) (d : Distr
   shown : (drawn most : ℕ) → (step de setup m (call_of n d h)).draws ≡ drawn → step_ceiling Rand1 m (step de setup m (call_of n d h)).state n ≡ most → Draws (laid setup m) d n h drawn most
   unfolding laid
   shown drawn most x y =
-      let after : view (sample_of (laid setup m) d n h).state ≡ (step de setup m (call_of n d h)).state = ap (λ (r : Returned de State). view r.state) result-is ∙ view-laid setup _ (step-sound de de-laws setup m (call_of n d h) v) in
+      let after : view (sample_of (laid setup m) d n h).state ≡ (step de setup m (call_of n d h)).state = ap (λ (r : Returned de State). view r.state) result-is ∙ view-laid setup _ (step-sound de de-laws setup small-valid m (call_of n d h) v) in
       record { draws = ap (λ (r : Returned de State). r.draws) result-is ∙ x; ceiling = (λ i. step_ceiling Rand1 (view-laid setup m v i) (after i) n) ∙ y }
 
 -- ---- THE CALLS
@@ -116,7 +115,7 @@ pub record CeilingMet : Type 0 where
   pub an_extra : Draws (laid setup all_open) unit 6 [] 2 2
 
 pub ceiling-met : CeilingMet
-unfolding dec is_nan lt add mul of_int drawn unit_of draw_of many verdict_of random_setting any_nan any_bad random_entry random_entries random_choice random_choices random_candidate random_candidates continuous_dims space_of all has differing C.any_bad fresh best_of scan results_of counted close place_in next_in move assign sound_test discovery sampling state_refusal accept step firsts_of extra_of fits entries_fit choices_fit step_ceiling
+unfolding dec is_nan lt add mul of_int drawn unit_of draw_of many verdict_of random_setting random_entry random_entries random_choice random_choices random_candidate random_candidates continuous_dims space_of all has differing C.any_bad fresh best_of scan results_of counted close place_in next_in move assign sound_test discovery sampling state_refusal accept step firsts_of extra_of fits entry_fits entries_fit choices_fit step_ceiling
 ceiling-met =
     record {
       first_dimension = shown (fresh de setup) refl unit 1 [] 1 1 refl refl;

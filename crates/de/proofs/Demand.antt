@@ -18,7 +18,7 @@ use Rattle.ledger.proofs.SoundTest.{sound-test}
 use Rattle.ledger.proofs.Theorem.{program-demand3, program-answers}
 use Rattle.kernel.specs.De.{de}
 use Rattle.kernel.proofs.Kernel.{de-laws}
-use Rattle.state.specs.Setup.{setup_verdict}
+use Rattle.kernel.specs.Setup.{setup_verdict}
 use Rattle.state.specs.Sound.{sound_state}
 use Rattle.state.specs.View.{view, laid}
 use Rattle.state.specs.declared.State.{State}
@@ -53,10 +53,10 @@ module _ (S : Setup) (ok : is_ok (setup_verdict S) ≡ true) where
   call_view s c e =
       let r = step de S (view s) c in
       rw (stepped s c e, defined s c e)
-      (λ i. record { answer = r.answer; draws = r.draws; state = view-laid S r.state (step-sound de de-laws S (view s) c e.sound) i })
+      (λ i. record { answer = r.answer; draws = r.draws; state = view-laid S r.state (step-sound de de-laws S ok (view s) c e.sound) i })
 
   call_clean : (s : State) (c : Call de) → Clean S s → Clean S (ran s c).state
-  call_clean s c e = rw (stepped s c e) (laid-clean (step de S (view s) c).state (step-sound de de-laws S (view s) c e.sound))
+  call_clean s c e = rw (stepped s c e) (laid-clean (step de S (view s) c).state (step-sound de de-laws S ok (view s) c e.sound))
 
   pub meets : Meets de (program S) S
   unfolding fresh_state
@@ -72,7 +72,7 @@ module _ (S : Setup) (ok : is_ok (setup_verdict S) ≡ true) where
 
   -- THE THEOREM
   pub de-demand3 : (cs : List (Call de)) → Demand3 de (program S) S cs
-  de-demand3 cs = program-demand3 de de-laws (program S) S meets cs
+  de-demand3 cs = program-demand3 de de-laws (program S) S ok meets cs
 
   -- and over every list the code returns what the definition returns: answers, draws and states
   pub de-answers : (cs : List (Call de)) → returns_from de (program S) (fresh_state S) cs ≡ returns_from de (definition de S) (fresh de S) cs

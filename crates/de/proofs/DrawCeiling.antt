@@ -18,7 +18,7 @@ use Rattle.state.specs.Sound.{sound_state}
 use Rattle.state.specs.View.{view}
 use Rattle.state.specs.declared.State.{State}
 use Rattle.state.proofs.Laid.{view-laid}
-use Rattle.state.proofs.Tidy.{view-sound}
+use Rattle.state.proofs.Tidy.{view-sound, setup-valid}
 use Rattle.de.specs.Ceiling.{draw_ceiling}
 use Rattle.de.specs.Sample.{call_of, laid_result, unsound, sample_of}
 
@@ -33,4 +33,4 @@ draw-ceiling s d n h = go (sound_state s) refl
     go false e = omega arith
     go true e =
         let v = view-sound s e de-laws in
-        rw (view-laid S (step de S (view s) (call_of n d h)).state (step-sound de de-laws S (view s) (call_of n d h) v)) (step-few S (view s) (call_of n d h) v)
+        rw (view-laid S (step de S (view s) (call_of n d h)).state (step-sound de de-laws S (setup-valid s e) (view s) (call_of n d h) v)) (step-few S (view s) (call_of n d h) v)

@@ -5,7 +5,7 @@ use mathlib.Core.Bool.{Bool, true, false}
 use Rattle.distribution.specs.Validate.{refused_if}
 use Rattle.distribution.specs.declared.Refusal.TheVariants.{MutationFactor, CrossoverRate, PopulationSize}
 use Rattle.ledger.specs.Words.{or_else, refuse_if}
-use Rattle.state.specs.Setup.{factor_fails, rate_fails, size_fails, setup_verdict}
+use Rattle.kernel.specs.Setup.{factor_fails, rate_fails, size_fails, setup_verdict}
 use Rattle.de.specs.Build.{built_by, built_of, built_refusal, setup_refusal}
 use Rattle.de.specs.declared.build.DESamplerBuilder.{DESamplerBuilder}
 use Rattle.distribution.specs.declared.Refusal.{Refusal}

@@ -13,18 +13,17 @@ use Rattle.distribution.specs.declared.Distribution.{Distribution}
 use Rattle.candidates.specs.declared.Candidate.{Candidate}
 use Rattle.evolution.specs.declared.Setup.{Setup}
 use Rattle.history.specs.declared.CompletedTrial.{CompletedTrial}
-use Rattle.ledger.specs.Words.{◌>>=◌}
 use Rattle.ledger.specs.Kernel.{Gen, Laws}
 use Rattle.ledger.specs.Call.{any_bad}
 use Rattle.ledger.specs.State.{numbers, State as Plain, start_gen}
 use Rattle.ledger.specs.Sample.{discovers, sampling, discovery, state_refusal, accept, step, begin}
-use Rattle.ledger.specs.Assignment.{Accepted, setting_of, hand_out, serve, next_in, assign}
+use Rattle.ledger.specs.Assignment.{setting_of, hand_out, serve, next_in, assign}
 use Rattle.ledger.specs.Closing.{close, counted}
 use Rattle.ledger.specs.Soundness.{Sound, sound_test}
 use Rattle.ledger.proofs.SoundTest.{sound-test}
 use Rattle.ledger.proofs.Lists.{true→T}
 use Rattle.kernel.specs.De.{de}
-use Rattle.state.specs.Setup.{setup_verdict}
+use Rattle.kernel.specs.Setup.{setup_verdict}
 use Rattle.state.specs.Sound.{clean_test, sound_state}
 use Rattle.state.specs.View.{view}
 use Rattle.state.specs.declared.State.{State}
@@ -38,18 +37,14 @@ setting-bare false m n d h k y g = refl
 serve-bare : (m : Plain de) (n : ℕ) (d : Distribution) (h : List CompletedTrial) (cs : List Candidate) (y : Candidate) (g : Gen ℕ) → serve de m (call_of n d h) cs y g ≡ serve de m (call_of n d []) cs y g
 serve-bare m n d h cs y g = ap (hand_out de m (call_of n d []) cs) (setting-bare (ltb (next_in m.trials n) (length m.dims)) m n d h (next_in m.trials n) y g)
 
-bind-same : {A B : Type 0} (o : Option A) (f k : A → Option B) → ((a : A) → f a ≡ k a) → (o >>= f) ≡ (o >>= k)
-bind-same None f k h = refl
-bind-same (Some a) f k h = h a
-
 assign-bare : (S : Setup) (m : Plain de) (n : ℕ) (d : Distribution) (h : List CompletedTrial) (g : Gen ℕ) (o : Option Candidate) → assign de S m (call_of n d h) g o ≡ assign de S m (call_of n d []) g o
 unfolding assign
-assign-bare S m n d h g None = bind-same (de.extra S m.dims g) _ _ (λ x. ap {B = Option (Accepted de)} (λ (a : Accepted de). Some a) (serve-bare m n d h _ _ _))
-assign-bare S m n d h g (Some y) = ap {B = Option (Accepted de)} (λ (a : Accepted de). Some a) (serve-bare m n d h _ _ _)
+assign-bare S m n d h g None = serve-bare m n d h _ _ _
+assign-bare S m n d h g (Some y) = serve-bare m n d h _ _ _
 
 sampling-on : (S : Setup) (N : ℕ) (m : Plain de) (n : ℕ) (d : Distribution) (h : List CompletedTrial) (g : Gen ℕ) → sampling de S N m (call_of n d h) g ≡ sampling_on S m n d (counted de N (numbers m.trials) h) g
 unfolding sampling sampling_on
-sampling-on S N m n d h g = bind-same (close de S m g (counted de N (numbers m.trials) h)) _ _ (λ k. assign-bare S k.out n d h k.gen _)
+sampling-on S N m n d h g = let k = close de S m g (counted de N (numbers m.trials) h) in assign-bare S k.out n d h k.gen _
 
 module _ (L : Laws de) where
   discovery-on : (S : Setup) (b : Bool) (m : Plain de) (n : ℕ) (d : Distribution) (h : List CompletedTrial) → m.trials ≡ [] → discovery de S b m (call_of n d h) ≡ discovery_on S b m n d
@@ -59,8 +54,8 @@ module _ (L : Laws de) where
       let N = de.size_of S m.dims in
       let four : 4 ≤ N = L.sized S m.dims in
       let c : counted de N (numbers m.trials) h ≡ None = rw (e, lt-leb N 0 (omega arith)) in
-      bind-same (de.firsts S m.dims N (start_gen de m)) _ _ (λ k. sampling-on S N (begin de m N k.out) n d h k.gen
-      ∙ ap (λ (r : Option (List Float)). sampling_on S (begin de m N k.out) n d r k.gen) c)
+      let k = de.firsts S m.dims N (start_gen de m) in
+      sampling-on S N (begin de m N k.out) n d h k.gen ∙ ap (λ (r : Option (List Float)). sampling_on S (begin de m N k.out) n d r k.gen) c
 
   pub step-on : (S : Setup) (m : Plain de) (n : ℕ) (d : Distribution) (h : List CompletedTrial) → Sound de S m → step de S m (call_of n d h) ≡ step_on S m n d (any_bad de h) (row_for m.size m h)
   unfolding step step_on refusal

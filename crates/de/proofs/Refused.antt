@@ -1,6 +1,6 @@
 -- DEMAND 1 OF THE CODE, for every state, distribution, trial number and history, sound or not: the refusal is the first of the table that applies, and it counts zero draws and hands
 -- back the state that came in. A refused call on a sound state returns that state laid out again, and a sound state is laid out.
-use Rattle.std.specs.Prelude.{Option, Some, None, Err, is_none}
+use Rattle.std.specs.Prelude.{Option, Some, None, Err}
 use Prim.Native.Nat.{ℕ}
 use mathlib.Core.Path.{◌≡◌, refl, sym, ap, subst, ◌∙◌}
 use mathlib.Core.Bool.{Bool, true, false, cond, true≢false}
@@ -17,7 +17,7 @@ use Rattle.ledger.specs.State as Plain
 use Rattle.ledger.specs.State.{Returned, refuse}
 use Rattle.ledger.specs.Assignment.{Accepted}
 use Rattle.ledger.specs.Claim.{refusal_in}
-use Rattle.ledger.specs.Sample.{step, outcome, state_refusal, accept, eleven_at}
+use Rattle.ledger.specs.Sample.{step, outcome, state_refusal, accept}
 use Rattle.ledger.proofs.Sound.{step-sound}
 use Rattle.kernel.specs.De.{de}
 use Rattle.kernel.proofs.Kernel.{de-laws}
@@ -35,25 +35,22 @@ use Rattle.de.specs.declared.Sampled.{Sampled}
 
 -- ---- its number is the first of the table that applies, for every state
 
-outcome-by : (m : Plain.State de) (S : Setup) (o p : Option ℕ) (a : Option (Accepted de))
-    → refusal_in de (laid_result S (outcome de m (or_else o p) a)).answer ≡ or_else o (or_else p (refuse_if (is_none a) 11))
-outcome-by m S (Some r) p a = refl
-outcome-by m S None (Some r) a = refl
-outcome-by m S None None None = refl
-outcome-by m S None None (Some a) = refl
+outcome-by : (m : Plain.State de) (S : Setup) (o : Option ℕ) (a : Accepted de) → refusal_in de (laid_result S (outcome de m o a)).answer ≡ o
+outcome-by m S (Some r) a = refl
+outcome-by m S None a = refl
 
 pub refused_by : (s : State) (d : Distribution) (n : ℕ) (h : List CompletedTrial) → refusal_in de (sample_of s d n h).answer ≡ table_refusal s (call_of n d h)
-unfolding sample_of step eleven_at
+unfolding sample_of step
 refused_by s d n h = go (sound_state s)
   where
     c : Call de
     c = call_of n d h
 
     by : Option ℕ
-    by = or_else (call_refusal de c) (or_else (state_refusal de (view s).size (view s) c) (refuse_if (is_none (accept de s.setup (view s).size (view s) c)) 11))
+    by = or_else (call_refusal de c) (state_refusal de (view s).size (view s) c)
 
     go : (b : Bool) → refusal_in de (cond b (laid_result s.setup (step de s.setup (view s) c)) (unsound s)).answer ≡ cond b by (Some 0)
-    go true = outcome-by (view s) s.setup (call_refusal de c) (state_refusal de (view s).size (view s) c) (accept de s.setup (view s).size (view s) c)
+    go true = outcome-by (view s) s.setup by (accept de s.setup (view s).size (view s) c)
     go false = refl
 
 -- ---- a history with an entry that refusal 8 is for gives no setting: that or another refusal is given
@@ -84,11 +81,10 @@ abbrev Unmoved : State → Returned de State → Plain.Answer de → Type 0
 Unmoved s r (Plain.refused q) = r ≡ refuse de q s
 Unmoved s r (Plain.given x) = Unit {0}
 
-laid-unmoved : (s : State) (is : s ≡ laid s.setup (view s)) (o : Option ℕ) (a : Option (Accepted de))
+laid-unmoved : (s : State) (is : s ≡ laid s.setup (view s)) (o : Option ℕ) (a : Accepted de)
     → Unmoved s (laid_result s.setup (outcome de (view s) o a)) (outcome de (view s) o a).answer
 laid-unmoved s is (Some r) a = ap (refuse de r) (sym is)
-laid-unmoved s is None None = ap (refuse de 11) (sym is)
-laid-unmoved s is None (Some a) = tt
+laid-unmoved s is None a = tt
 
 unmoved : (s : State) → Measured s → (d : Distribution) (n : ℕ) (h : List CompletedTrial) → Unmoved s (sample_of s d n h) (sample_of s d n h).answer
 unfolding sample_of step
@@ -122,4 +118,4 @@ unfolding sample_of
 sampled-sound s d n h e =
     rw e
     (laid-sound s.setup (step de s.setup (view s) (call_of n d h)).state
-    (step-sound de de-laws s.setup (view s) (call_of n d h) (Tidy.view-sound s e de-laws)) (Tidy.setup-valid s e) de-laws)
+    (step-sound de de-laws s.setup (Tidy.setup-valid s e) (view s) (call_of n d h) (Tidy.view-sound s e de-laws)) (Tidy.setup-valid s e) de-laws)

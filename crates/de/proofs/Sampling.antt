@@ -1,5 +1,5 @@
 -- The whole call by its tests: which refusal is given, and that what is returned is the definition's, laid out.
-use Rattle.std.specs.Prelude.{Option, Some, None, Result, Ok, Err, OnErr, ⊤, is_none, is_some, unwrap_or}
+use Rattle.std.specs.Prelude.{Option, Some, None, Result, Ok, Err, ⊤, is_none, is_some, unwrap_or}
 use Rattle.std.specs.Result.{result_and}
 use Prim.Native.Nat.{ℕ, suc, ◌+◌}
 use mathlib.Core.Path.{◌≡◌, refl, sym, ap, subst, ◌∙◌}
@@ -14,14 +14,14 @@ use Rattle.distribution.specs.Refusals.{refusal_number}
 use Rattle.distribution.specs.Validate.{judged, verdict_of, refusal_of, refused_if}
 use Rattle.distribution.specs.declared.Distribution.{Distribution}
 use Rattle.distribution.specs.declared.Refusal.{Refusal}
-use Rattle.distribution.specs.declared.Refusal.TheVariants.{StateNotSound, HistoryNan, Dimensions, ExtraTrials, EntryNan}
+use Rattle.distribution.specs.declared.Refusal.TheVariants.{StateNotSound, HistoryNan, Dimensions, ExtraTrials}
 use Rattle.distribution.specs.declared.ParamValue.{ParamValue}
 use Rattle.evolution.specs.declared.Setup.{Setup}
 use Rattle.history.specs.declared.Gathered.{Gathered}
 use Rattle.ledger.specs.Words.{or_else, refuse_if, has}
 use Rattle.ledger.specs.State as Plain
 use Rattle.ledger.specs.State.{refuse}
-use Rattle.ledger.specs.Assignment.{place_in, Accepted as Taken}
+use Rattle.ledger.specs.Assignment.{place_in}
 use Rattle.ledger.specs.Sample.{discovers, outcome}
 use Rattle.ledger.proofs.Lists.{none≢some}
 use Rattle.ledger.proofs.Trials.{place-in}
@@ -30,8 +30,8 @@ use Rattle.state.specs.Sound.{sound_state}
 use Rattle.state.specs.View.{view, laid, size_in}
 use Rattle.state.specs.declared.State.{State}
 use Rattle.state.proofs.Tidy as Tidy
-use Rattle.assignment.specs.Raw.{place_of, Given, given as taken, given_ok}
-use Rattle.assignment.specs.Laid.{laid_given, laid_accepted}
+use Rattle.assignment.specs.Raw.{place_of, Given, given as taken}
+use Rattle.assignment.specs.Laid.{laid_given}
 use Rattle.assignment.proofs.Refine.{place-laid}
 use Rattle.closing.specs.Raw.{closes_now}
 use Rattle.common.specs.Bounds.{zero_f}
@@ -195,15 +195,10 @@ module _ (s : State) (g : Gathered) (h : Handed s g) (e : sound_state s ≡ true
       accepted-on : accepted_on s d n results ≡ accept_on S m.size m n d row
       accepted-on = ap (λ (o : Option (List Float)). accept_on S m.size m n d o) row_is
 
-      pub given : (a : Result (ParamValue × ℕ) Refusal) (t : State) → given_ok a t ≡ laid_accepted S (accepted_on s d n results)
-          → OnErr a (t ≡ s) → numbered (sampled a t) ≡ sampled_on s d n g.nan row
-      given a t e k = go a (accept_on S m.size m n d row) (e ∙ ap (laid_accepted S) accepted-on) k ∙ sym (sampled-is None unrefused)
-        where
-          go : (a : Result (ParamValue × ℕ) Refusal) (o : Option (Taken de)) → given_ok a t ≡ laid_accepted S o → OnErr a (t ≡ s) → numbered (sampled a t) ≡ laid_result S (outcome de m None o)
-          go (Ok x) (Some y) e k = let f : taken x t ≡ laid_given S y = cc in ap (λ (z : Given). numbered (sampled (Ok (z.setting, z.draws)) z.state)) f
-          go (Ok x) None e k = absurd cc
-          go (Err r) None e k = let f : r ≡ EntryNan = cc in rw (f, k) (ap (refuse de 11) is)
-          go (Err r) (Some y) e k = absurd cc
+      pub given : (x : ParamValue × ℕ) (t : State) → taken x t ≡ laid_given S (accepted_on s d n results) → numbered (sampled (Ok x) t) ≡ sampled_on s d n g.nan row
+      given x t e =
+          ap (λ (z : Given). numbered (sampled (Ok (z.setting, z.draws)) z.state)) (e ∙ ap (laid_given S) accepted-on)
+          ∙ sym (sampled-is None unrefused)
 
 -- refusal 0
 pub not-sound : (s : State) (d : Distribution) (n : ℕ) (b : Bool) (o : Option (List Float)) → sound_state s ≡ false → numbered (sampled (Err StateNotSound) s) ≡ sampled_on s d n b o

@@ -12,7 +12,7 @@ use Rattle.evolution.specs.declared.Setup.{Setup}
 use Rattle.ledger.specs.Words.{or_else, refuse_if}
 use Rattle.ledger.specs.State.{fresh}
 use Rattle.kernel.specs.De.{de}
-use Rattle.state.specs.Setup.{factor_fails, rate_fails, size_fails, setup_verdict}
+use Rattle.kernel.specs.Setup.{factor_fails, rate_fails, size_fails, setup_verdict}
 use Rattle.state.specs.View.{laid}
 use Rattle.state.specs.declared.State.{State}
 use Rattle.de.specs.declared.build.DESamplerBuilder.{DESamplerBuilder}

@@ -3,9 +3,9 @@
 -- is a setting or a refusal, by its type.
 use Rattle.std.specs.Prelude.{ℕ, ◌≡◌, cond, Option, Some, Err}
 use Rattle.distribution.specs.declared.Refusal.{Refusal}
-use Rattle.ledger.specs.Words.{or_else, refuse_if}
+use Rattle.ledger.specs.Words.{or_else}
 use Rattle.ledger.specs.Call.{Call, call_refusal}
-use Rattle.ledger.specs.Sample.{state_refusal, eleven_at}
+use Rattle.ledger.specs.Sample.{state_refusal}
 use Rattle.ledger.specs.Claim.{refusal_in}
 use Rattle.kernel.specs.De.{de}
 use Rattle.state.specs.Sound.{sound_state}
@@ -14,13 +14,10 @@ use Rattle.state.specs.declared.State.{State}
 use Rattle.de.specs.Answer.{plain_answer}
 use Rattle.de.specs.declared.Sampled.{Sampled}
 
--- The table for a sample call on any state: 0 where the state isn't sound, then 4 to 8 of the call, 9 and 10, and 11. "The first that applies, in
--- this order, is given, and only then."
+-- The table for a sample call on any state: 0 where the state isn't sound, then 4 to 8 of the call, 9 and 10. "The first that applies, in this order, is
+-- given, and only then."
 abbrev pub table_refusal : State → Call de → Option ℕ
-table_refusal s c =
-    cond (sound_state s)
-    (or_else (call_refusal de c) (or_else (state_refusal de (view s).size (view s) c) (refuse_if (eleven_at de s.setup (view s) c) 11)))
-    (Some 0)
+table_refusal s c = cond (sound_state s) (or_else (call_refusal de c) (state_refusal de (view s).size (view s) c)) (Some 0)
 
 -- what was returned is nothing but the refusal: no setting, no draw, the state that came in
 abbrev pub only_refuses : Refusal → State → Sampled

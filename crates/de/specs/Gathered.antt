@@ -6,7 +6,7 @@ use Rattle.distribution.specs.Validate.{judged}
 use Rattle.distribution.specs.declared.Distribution.{Distribution}
 use Rattle.evolution.specs.declared.Setup.{Setup}
 use Rattle.history.specs.declared.CompletedTrial.{CompletedTrial}
-use Rattle.ledger.specs.Words.{◌>>=◌, or_else, refuse_if, has}
+use Rattle.ledger.specs.Words.{or_else, refuse_if, has}
 use Rattle.ledger.specs.Kernel.{Gen}
 use Rattle.ledger.specs.State as Plain
 use Rattle.ledger.specs.Assignment.{place_in, Accepted, assign}
@@ -22,23 +22,23 @@ use Rattle.de.specs.Sample.{call_of, laid_result, unsound}
 
 -- ---- the ledger's `sampling`, `discovery`, `state_refusal`, `accept` and `step`, with the counted results in place of the history
 
-unfoldable pub sampling_on : Setup → Plain.State de → ℕ → Distribution → Option (List Float) → Gen ℕ → Option (Accepted de)
-sampling_on S m n d row g = do
-  k ← close de S m g row
-  assign de S k.out (call_of n d []) k.gen (slice_get k.out.candidates (place_in (Plain.numbers k.out.trials) n))
+unfoldable pub sampling_on : Setup → Plain.State de → ℕ → Distribution → Option (List Float) → Gen ℕ → Accepted de
+sampling_on S m n d row g =
+    let k = close de S m g row in
+    assign de S k.out (call_of n d []) k.gen (slice_get k.out.candidates (place_in (Plain.numbers k.out.trials) n))
 
-unfoldable pub discovery_on : Setup → Bool → Plain.State de → ℕ → Distribution → Option (Accepted de)
-discovery_on S true m n d = Some (discover de m (call_of n d []) (de.random (record { distribution = d }) (Plain.start_gen de m)))
-discovery_on S false m n d = do
-  let N = de.size_of S m.dims
-  k ← de.firsts S m.dims N (Plain.start_gen de m)
-  sampling_on S (begin de m N k.out) n d None k.gen
+unfoldable pub discovery_on : Setup → Bool → Plain.State de → ℕ → Distribution → Accepted de
+discovery_on S true m n d = discover de m (call_of n d []) (de.random (record { distribution = d }) (Plain.start_gen de m))
+discovery_on S false m n d =
+    let N = de.size_of S m.dims in
+    let k = de.firsts S m.dims N (Plain.start_gen de m) in
+    sampling_on S (begin de m N k.out) n d None k.gen
 
 unfoldable pub refusal_on : Option ℕ → Plain.State de → ℕ → Option (List Float) → Option ℕ
 refusal_on None m n row = refuse_if (discovers m.first n && leb 16 (length m.dims)) 9
 refusal_on (Some N) m n row = refuse_if (is_none row && (not (has (Plain.numbers m.trials) n) && leb (N + 64) (length m.trials))) 10
 
-unfoldable pub accept_on : Setup → Option ℕ → Plain.State de → ℕ → Distribution → Option (List Float) → Option (Accepted de)
+unfoldable pub accept_on : Setup → Option ℕ → Plain.State de → ℕ → Distribution → Option (List Float) → Accepted de
 accept_on S None m n d row = discovery_on S (discovers m.first n) m n d
 accept_on S (Some N) m n d row = sampling_on S m n d row (Plain.start_gen de m)
 
@@ -69,7 +69,7 @@ abbrev pub counted_in : State → Option (List Float) → Option (List Float)
 counted_in s results = option_map (take s.n) results
 
 -- a call on the state s that is not refused before, where it closes a generation by the first n results or, with none, closes none
-abbrev pub accepted_on : State → Distribution → ℕ → Option (List Float) → Option (Accepted de)
+abbrev pub accepted_on : State → Distribution → ℕ → Option (List Float) → Accepted de
 accepted_on s d n results = accept_on s.setup (view s).size (view s) n d (counted_in s results)
 
 -- what the history gives each wanted number, as results: 0 where it gives none, which no closing counts

@@ -1,4 +1,4 @@
--- What the parts of a call are handed: a call that no refusal of 0 and 4 to 10 stops, and what a scan gathers.
+-- What the parts of a call are handed: a call that no refusal stops, and what a scan gathers.
 use Rattle.std.specs.Prelude.{true, false, List, Float, ◌≢◌, ◌≡◌, ℕ, length, take, Option, Some, None}
 use Rattle.std.specs.Float.{nan}
 use Rattle.distribution.specs.declared.Distribution.{Distribution}
@@ -17,7 +17,7 @@ pub record Counted (s : State) (results : List Float) : Type 0 where
   pub closing : s.discovered ≡ true
   pub numbers : All (λ v. v ≢ nan) (take s.n results)
 
--- what the tests before leave: a sound state, none of the refusals 4 to 10, and the results of a closing if the call closes a generation
+-- what the tests before leave: a sound state, none of the refusals, and the results of a closing if the call closes a generation
 pub record Acceptable (s : State) (d : Distribution) (n : ℕ) (results : Option (List Float)) : Type 0 where
   pub arrays : Measured s
   pub sound : sound_state s ≡ true

@@ -1,8 +1,8 @@
 // The sample call (sampler/de.rs, `sample`): refusals first, then discovery, closing and assignment.
-ghost use Rattle.std.specs.Prelude.{List, ◌≡◌, ◌≤◌, length, OnErr};
+ghost use Rattle.std.specs.Prelude.{List, ◌≡◌, ◌≤◌, length};
 ghost use Rattle.std.specs.Iterator.{Drains, IsFinite};
-ghost use Rattle.assignment.specs.Raw.{given_ok};
-ghost use Rattle.assignment.specs.Laid.{laid_accepted};
+ghost use Rattle.assignment.specs.Raw.{given};
+ghost use Rattle.assignment.specs.Laid.{laid_given};
 ghost use Rattle.de.specs.Answer.{numbered, returned, sampled};
 ghost use Rattle.de.specs.Gathered.{accepted_on, sampled_on, row_in, results_in, closing_results};
 ghost use Rattle.de.specs.Refusing.{count_refusal, first_refusal};
@@ -74,29 +74,27 @@ fn closing_results(state: &State, values: &[Option<f64>; 160]) -> Option<[f64; 1
     None
 }
 
-// A call that no refusal of 0 and 4 to 10 stops: it closes a generation first where it has the results, or may end discovery.
-// Refusal 11 leaves the state as it was.
+// A call that no refusal stops: it closes a generation first where it has the results, or may end discovery.
 fn accept(
     state: &mut State,
     d: Distribution,
     trial: u64,
     results: &Option<[f64; 160]>,
-) -> Result<(ParamValue, u64), Refusal>
+) -> (ParamValue, u64)
     requires { Acceptable state.old d trial results.now }
-    ensures made { given_ok result state.new ≡ laid_accepted state.old.setup (accepted_on state.old d trial results.now) }
-    ensures kept { OnErr result (state.new ≡ state.old) }
+    ensures { given result state.new ≡ laid_given state.old.setup (accepted_on state.old d trial results.now) }
 {
     if state.discovered {
         let rng = match results {
-            Some(results) => close(state, results)?,
+            Some(results) => close(state, results),
             None => Gen::new(state.word),
         };
         return sample_active(state, d, trial, rng);
     }
     if discovers(state.first, trial) {
-        return Ok(sample_discovery(state, d, trial));
+        return sample_discovery(state, d, trial);
     }
-    let rng = finalize_discovery(state)?;
+    let rng = finalize_discovery(state);
     sample_active(state, d, trial, rng)
 }
 
@@ -118,7 +116,7 @@ fn sample_any(
     let of_discovery = discovers(state.first, trial);
     let counts = count_refusal(state, of_discovery, results.is_some(), place);
     refusal_of(d, g.nan, counts)?;
-    accept(state, d, trial, &results)
+    Ok(accept(state, d, trial, &results))
 }
 
 // The call, given what its history has: its answer and its draws. A refusal counts none.

@@ -28,7 +28,7 @@ steps-finite = tt
 at_most : (x y : Float) → Number x → Number y → lt y x ≡ false → T (le x y)
 at_most x y p q e = holds (le_not_lt x y p q ∙ ap not e)
 
-not-above : (x y : Float) → Number x → Number y → T (le x y) → lt y x ≡ false
+pub not-above : (x y : Float) → Number x → Number y → T (le x y) → lt y x ≡ false
 not-above x y p q h = not-true (lt y x) (sym (le_not_lt x y p q) ∙ held (le x y) h)
 
 good-bound : (x : Float) → float_bound_fails x ≡ false → GoodBound x

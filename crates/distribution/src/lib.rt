@@ -69,7 +69,7 @@ pub struct DimIdx(pub usize);
 #[derive(Clone, Copy)]
 pub struct Ci(pub usize);
 
-// The refusals, in the order of their numbers 0 to 11.
+// The refusals, in the order of their numbers 0 to 10. No call gives 11: document 02 took it out (W8).
 #[derive(Clone, Copy, PartialEq, Eq)]
 pub enum Refusal {
     StateNotSound,
@@ -83,7 +83,6 @@ pub enum Refusal {
     HistoryNan,
     Dimensions,
     ExtraTrials,
-    EntryNan,
 }
 
 impl Refusal {
@@ -103,7 +102,6 @@ impl Refusal {
             Refusal::HistoryNan => 8,
             Refusal::Dimensions => 9,
             Refusal::ExtraTrials => 10,
-            Refusal::EntryNan => 11,
         }
     }
 }

@@ -19,7 +19,7 @@ use Rattle.ledger.specs.Sampler.{definition, viewed, returns_from, Meets}
 use Rattle.ledger.proofs.Theorem.{program-demand3, program-answers}
 use Rattle.kernel.specs.De.{de}
 use Rattle.kernel.proofs.Kernel.{de-laws}
-use Rattle.state.specs.Setup.{setup_verdict}
+use Rattle.kernel.specs.Setup.{setup_verdict}
 use Rattle.state.specs.View.{view}
 use Rattle.state.specs.declared.State.{State}
 use Rattle.state.proofs.Flags.{and-true}
@@ -59,10 +59,9 @@ abbrev Unmoved : Plain.State de → Returned de (Plain.State de) → Plain.Answe
 Unmoved m r (Plain.refused n) = r ≡ record { answer = Plain.refused n; draws = 0; state = m }
 Unmoved m r (Plain.given x) = Unit {0}
 
-outcome-unmoved : (m : Plain.State de) (o : Option ℕ) (a : Option (Accepted de)) → Unmoved m (outcome de m o a) (outcome de m o a).answer
+outcome-unmoved : (m : Plain.State de) (o : Option ℕ) (a : Accepted de) → Unmoved m (outcome de m o a) (outcome de m o a).answer
 outcome-unmoved m (Some r) a = refl
-outcome-unmoved m None None = refl
-outcome-unmoved m None (Some a) = tt
+outcome-unmoved m None a = tt
 
 sample-unmoved : (S : Setup) (m : Plain.State de) (c : Call de) → Unmoved m (sample de S m c) (sample de S m c).answer
 unfolding sample step
@@ -210,7 +209,7 @@ module _ (f : DeState) (u : DeSetup) (known : known_setup u ≡ true) (ok : is_o
       record {
         unknown = λ q _ k g. (unknown-answer g q.call q.history k, unknown-state g q.call q.history k);
         reads = reads-are (new_state f u) qs;
-        claim = program-demand3 de de-laws (library f u) S meets (meant_by qs);
+        claim = program-demand3 de de-laws (library f u) S ok meets (meant_by qs);
       }
 
   -- and over every list the caller reads what the definition returns: answers, draws and states

@@ -37,7 +37,7 @@ Beyond =
     (judged_entry Midpoint one_to_four (dec 3 0) (dec 5 1) ≡ dec 2 0)
     × (map (λ x. judged_entry Midpoint one_to_four x (dec 5 0)) (dec 1 0 ∷ dec 3 0 ∷ dec 4 0 ∷ []) ≡ dec 25 1 ∷ dec 35 1 ∷ dec 4 0 ∷ [])
 
--- one beyond none stays, whatever the parent: within, exactly on a bound, NaN; minus zero, which is not below zero
+-- one beyond none stays, whatever the parent: within, exactly on a bound, minus zero, which is not below zero; and NaN, which no sound state leads to (W8)
 abbrev pub Within : Type 0
 Within =
     (x : Float)
@@ -53,7 +53,7 @@ Clamped = (judged_entry Midpoint one_to_four (dec 10 0) (dec 5 0) ≡ dec 4 0) �
 abbrev pub Subnormal : Type 0
 Subnormal = (halfway (tiny 1) (tiny 5) ≡ tiny 3) × (halfway (tiny 2) (tiny 5) ≡ tiny 4)
 
--- a sum that passes the largest double is infinite, and its half clamped
+-- a sum that passes the largest double is infinite, and its half clamped; no sound state leads to one (W8)
 abbrev pub Large : Type 0
 Large =
     (halfway largest largest ≡ inf false)

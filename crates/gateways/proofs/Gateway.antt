@@ -14,7 +14,7 @@ use Rattle.ledger.specs.Claim.{start}
 use Rattle.ledger.specs.State as Plain
 use Rattle.ledger.specs.Words.{All}
 use Rattle.kernel.specs.De.{de}
-use Rattle.state.specs.Setup.{setup_verdict}
+use Rattle.kernel.specs.Setup.{setup_verdict}
 use Rattle.state.specs.declared.State.{State}
 use Rattle.de.specs.Build.{fresh_state}
 use Rattle.de.specs.Program.{ran}

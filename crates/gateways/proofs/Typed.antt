@@ -21,7 +21,7 @@ use Rattle.edge.specs.declared.trial.DeCompletedTrial.{DeCompletedTrial}
 use Rattle.exports.proofs.Typed.{distribution, setup}
 use Rattle.exports.specs.Program.{Sent, meant}
 use Rattle.restarts.specs.Gateway.{TypedCall}
-use Rattle.restarts.proofs.Laid.{all-mapped}
+use Rattle.ledger.proofs.Lists.{all-mapped}
 
 pub typed-new : (u : DeSetup) (vs : List Val) → Is FlatU.the_row u vs → TypedSetup (setup_of u)
 typed-new u vs p = let s = setup u vs p in typed-setup (setup_of u) (s.0 ∷ []) s.1

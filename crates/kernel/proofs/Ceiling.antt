@@ -27,7 +27,7 @@ use Rattle.ledger.specs.Closing.{counted, settle, reopen, close}
 use Rattle.ledger.specs.Assignment.{place_in, move, Accepted, serve, assign}
 use Rattle.ledger.specs.Soundness.{Sound, Running}
 use Rattle.ledger.specs.Sample.{discovers, discover, begin, sampling, discovery, state_refusal, accept, outcome, step}
-use Rattle.ledger.proofs.Lists.{some_inj, bind-some, neither, not-refused, past_end, snoc-length}
+use Rattle.ledger.proofs.Lists.{neither, not-refused, past_end, snoc-length}
 use Rattle.ledger.proofs.Trials.{place-in, move-length}
 use Rattle.ledger.proofs.Results.{Counted, counted_is}
 use Rattle.ledger.proofs.Steps.{slots_length}
@@ -79,9 +79,9 @@ module _ (S : Setup) (m : Plain.State de) (c : Call de) (v : Sound de S m) where
   abbrev Within : Accepted de → Type 0
   Within a = a.draws ≤ step_ceiling S.strategy m a.state c.number
 
-  -- the call is served from state t on
-  abbrev Serves : Plain.State de → L.Gen ℕ → Accepted de → Type 0
-  Serves t g a = assign de S t c g (slice_get t.candidates (place_in (numbers t.trials) c.number)) ≡ Some a
+  -- what it made if it is served from state t on
+  abbrev served : L.Made ℕ (Plain.State de) → Accepted de
+  served r = assign de S r.out c r.gen (slice_get r.out.candidates (place_in (numbers r.out.trials) c.number))
 
   -- ---- after discovery
 
@@ -96,9 +96,9 @@ module _ (S : Setup) (m : Plain.State de) (c : Call de) (v : Sound de S m) where
     ended t = ap (λ (o : Option ℕ). is_none o && is_some t.size) sized
 
     -- it closes nothing
-    plain-few : (a : Accepted de) → Serves m (start_gen de m) a → Within a
+    plain-few : Within (served (record { out = m; gen = start_gen de m }))
     unfolding assign
-    plain-few a z = go (has (numbers m.trials) c.number) refl (slice_get m.candidates (place_in (numbers m.trials) c.number)) refl z
+    plain-few = go (has (numbers m.trials) c.number) refl (slice_get m.candidates (place_in (numbers m.trials) c.number)) refl
       where
         g : L.Gen ℕ
         g = start_gen de m
@@ -106,56 +106,50 @@ module _ (S : Setup) (m : Plain.State de) (c : Call de) (v : Sound de S m) where
         no-fewer : length m.trials ≤ length (move (length m.dims) m.trials c.number)
         no-fewer = omega (arith, move-length (length m.dims) m.trials c.number)
 
-        go : (b : Bool) → has (numbers m.trials) c.number ≡ b → (o : Option Candidate) → slice_get m.candidates (place_in (numbers m.trials) c.number) ≡ o → assign de S m c g o ≡ Some a → Within a
-        go true f (Some y) x e =
+        go : (b : Bool) → has (numbers m.trials) c.number ≡ b → (o : Option Candidate) → slice_get m.candidates (place_in (numbers m.trials) c.number) ≡ o → Within (assign de S m c g o)
+        go true f (Some y) x =
             let r = serve de m c m.candidates y g in
-            subst Within (some_inj e) (of-open S.strategy m r.state c.number r.draws no-fewer (ended r.state) f w.some_dim (serve-few m c m.candidates y g))
-        go true f None x e =
+            of-open S.strategy m r.state c.number r.draws no-fewer (ended r.state) f w.some_dim (serve-few m c m.candidates y g)
+        go true f None x =
             absurd (omega (arith, past_end m.candidates (place_in (numbers m.trials) c.number) x, w.candidates, place-in (numbers m.trials) c.number f, length-map m.trials (λ (t : Trial). t.number)))
-        go false f (Some y) x e =
+        go false f (Some y) x =
             let r = serve de m c m.candidates y g in
-            subst Within (some_inj e)
-            (of-new S.strategy m r.state c.number r.draws no-fewer (ended r.state) f (omega (arith, serve-new m c m.candidates y g w.some_dim f)))
-        go false f None x e =
-            let p = bind-some (extra_of m.dims g) _ a e in
-            let r = serve de m c (m.candidates ++ (p.0.out ∷ [])) p.0.out p.0.gen in
-            subst Within (some_inj p.2)
-            (of-new S.strategy m r.state c.number r.draws no-fewer (ended r.state) f
-            (omega (arith, serve-new m c (m.candidates ++ (p.0.out ∷ [])) p.0.out p.0.gen w.some_dim f, extra-few m.dims g p.0 p.1)))
+            of-new S.strategy m r.state c.number r.draws no-fewer (ended r.state) f (omega (arith, serve-new m c m.candidates y g w.some_dim f))
+        go false f None x =
+            let p = extra_of m.dims g in
+            let r = serve de m c (m.candidates ++ (p.out ∷ [])) p.out p.gen in
+            of-new S.strategy m r.state c.number r.draws no-fewer (ended r.state) f
+            (omega (arith, serve-new m c (m.candidates ++ (p.out ∷ [])) p.out p.gen w.some_dim f, extra-few m.dims g))
 
     -- it closes a generation
-    closing-few : (many : ℕ) (row : List Float) → Counted de de-laws N many row → N ≤ length m.trials → (r : L.Made ℕ (Plain.State de)) → close de S m (start_gen de m) (Some row) ≡ Some r
-        → (a : Accepted de) → Serves r.out r.gen a → Within a
+    closing-few : (many : ℕ) (row : List Float) → Counted de de-laws N many row → N ≤ length m.trials → Within (served (close de S m (start_gen de m) (Some row)))
     unfolding close
-    closing-few many row q enough r e a z =
+    closing-few many row q enough =
         let o = settle de m.slots m.candidates row in
-        let p = bind-some (nexts_of S m.dims o.parents o.best (start_gen de m)) _ r e in
+        let p = nexts_of S m.dims o.parents o.best (start_gen de m) in
         let n = slots_length de de-laws S N m w many row q in
-        let few = nexts-few m.dims S o.parents o.best (start_gen de m) p.0 p.1 in
-        let there = de-laws.nexts_length S m.dims o.parents o.best (start_gen de m) p.0 p.1 ∙ n in
-        let h : p.0.gen.draws ≤ N * (tries S.strategy + length m.dims) = omega (arith, subst (λ (k : ℕ). p.0.gen.draws ≤ 0 + k * (tries S.strategy + length m.dims)) n few) in
-        go (reopen de m o p.0.out) p.0.gen refl refl refl there h
-        (subst (λ (x : L.Made ℕ (Plain.State de)). Serves x.out x.gen a) (sym (some_inj p.2)) z)
+        go (reopen de m o p.out) p.gen refl refl refl
+        (de-laws.nexts_length S m.dims o.parents o.best (start_gen de m) ∙ n)
+        (subst (λ (k : ℕ). p.gen.draws ≤ 0 + k * (tries S.strategy + length m.dims)) n (nexts-few m.dims S o.parents o.best (start_gen de m)))
       where
-        go : (t : Plain.State de) (g : L.Gen ℕ) → t.trials ≡ [] → t.dims ≡ m.dims → t.size ≡ m.size → length t.candidates ≡ N → g.draws ≤ N * (tries S.strategy + length m.dims)
-            → Serves t g a → Within a
-        go t g none_open dims size there h x =
-            let b = first-served S t c g none_open (omega (arith, there, four)) (rw dims w.some_dim) a x in
+        go : (t : Plain.State de) (g : L.Gen ℕ) → t.trials ≡ [] → t.dims ≡ m.dims → t.size ≡ m.size → length t.candidates ≡ N → g.draws ≤ 0 + N * (tries S.strategy + length m.dims)
+            → Within (served (record { out = t; gen = g }))
+        go t g none_open dims size there few =
+            let a = served (record { out = t; gen = g }) in
+            let b = first-served S t c g none_open (omega (arith, there, four)) (rw dims w.some_dim) in
             of-closing S.strategy m a.state c.number a.draws N (b.size ∙ size ∙ sized)
-            (subst (λ (ds : List DimensionInfo). a.draws ≤ N * (tries S.strategy + length ds)) (sym (b.dims ∙ dims)) (omega (arith, b.draws, h)))
+            (subst (λ (ds : List DimensionInfo). a.draws ≤ N * (tries S.strategy + length ds)) (sym (b.dims ∙ dims)) (omega (arith, b.draws, few)))
             (omega (arith, b.one, enough, four))
 
-    after-few : C.any_bad de c.history ≡ false → (a : Accepted de) → accept de S (Some N) m c ≡ Some a → Within a
+    after-few : C.any_bad de c.history ≡ false → Within (accept de S (Some N) m c)
     unfolding accept sampling close
-    after-few good a e =
-        let p = bind-some (close de S m (start_gen de m) (counted de N (numbers m.trials) c.history)) _ a e in
-        go (counted de N (numbers m.trials) c.history) refl p.0 p.1 p.2
+    after-few good = go (counted de N (numbers m.trials) c.history) refl
       where
-        go : (o : Option (List Float)) → counted de N (numbers m.trials) c.history ≡ o → (r : L.Made ℕ (Plain.State de)) → close de S m (start_gen de m) o ≡ Some r → Serves r.out r.gen a → Within a
-        go None x r y z = plain-few a (subst (λ (x : L.Made ℕ (Plain.State de)). Serves x.out x.gen a) (sym (some_inj y)) z)
-        go (Some row) x r y z =
+        go : (o : Option (List Float)) → counted de N (numbers m.trials) c.history ≡ o → Within (served (close de S m (start_gen de m) o))
+        go None x = plain-few
+        go (Some row) x =
             let q = counted_is de de-laws N (numbers m.trials) c.history row good x in
-            closing-few (length (numbers m.trials)) row q (omega (arith, q.enough, length-map m.trials (λ (t : Trial). t.number))) r y a z
+            closing-few (length (numbers m.trials)) row q (omega (arith, q.enough, length-map m.trials (λ (t : Trial). t.number)))
 
   -- ---- before discovery has ended
 
@@ -172,49 +166,45 @@ module _ (S : Setup) (m : Plain.State de) (c : Call de) (v : Sound de S m) where
         (omega (arith, ap (λ (x : L.Gen ℕ). x.draws) (one-draw c.distribution (start_gen de m)), snoc-length m.dims c.distribution))
 
     -- it ends discovery
-    ended-few : IsSome m.first → (p : L.Made ℕ (List Candidate)) → firsts_of m.dims (population_size_of S m.dims) (start_gen de m) ≡ Some p
-        → (a : Accepted de) → sampling de S (population_size_of S m.dims) (begin de m (population_size_of S m.dims) p.out) c p.gen ≡ Some a → Within a
-    unfolding sampling close counted
-    ended-few named p y a e =
+    ended-few : IsSome m.first → Within (discovery de S false m c)
+    unfolding discovery sampling close counted
+    ended-few named =
         let N = population_size_of S m.dims in
         let four : 4 ≤ N = de-laws.sized S m.dims in
+        let p = firsts_of m.dims N (start_gen de m) in
         let t = begin de m N p.out in
+        let a = served (record { out = t; gen = p.gen }) in
         let open-length : length (numbers m.trials) ≡ 0 = ap (λ (ts : List Trial). length (numbers ts)) no_trials in
-        let q = bind-some (close de S t p.gen (counted de N (numbers m.trials) c.history)) _ a e in
         let nothing : counted de N (numbers m.trials) c.history ≡ None = rw (lt-leb N (length (numbers m.trials)) (omega (arith, four, open-length))) in
-        let r = some_inj (subst (λ (o : Option (List Float)). close de S t p.gen o ≡ Some q.0) nothing q.1) in
-        let x = subst (λ (x : L.Made ℕ (Plain.State de)). Serves x.out x.gen a) (sym r) q.2 in
-        let there = de-laws.firsts_length S m.dims N (start_gen de m) p y in
-        let b = first-served S t c p.gen no_trials (omega (arith, there, four)) ((v.before unsized).named.0 named) a x in
-        of_end S.strategy m a.state c.number a.draws N b.size
+        let there = de-laws.firsts_length S m.dims N (start_gen de m) in
+        let b = first-served S t c p.gen no_trials (omega (arith, there, four)) ((v.before unsized).named.0 named) in
+        subst (λ (o : Option (List Float)). Within (served (close de S t p.gen o))) (sym nothing)
+        (of_end S.strategy m a.state c.number a.draws N b.size
         (subst (λ (ds : List DimensionInfo). a.draws ≤ N * (tries S.strategy + length ds)) (sym b.dims)
-        (omega (arith, b.draws, firsts-few m.dims N (start_gen de m) p y, mul-add N (tries S.strategy) (length m.dims))))
-        unsized
+        (omega (arith, b.draws, firsts-few m.dims N (start_gen de m), mul-add N (tries S.strategy) (length m.dims))))
+        unsized)
 
-    before-few : (a : Accepted de) → accept de S None m c ≡ Some a → Within a
+    before-few : Within (accept de S None m c)
     unfolding accept discovery
-    before-few a e = go (discovers m.first c.number) refl e
+    before-few = go (discovers m.first c.number) refl
       where
-        go : (b : Bool) → discovers m.first c.number ≡ b → discovery de S b m c ≡ Some a → Within a
-        go true h z = subst Within (some_inj z) found-few
-        go false h z =
-            let p = bind-some (firsts_of m.dims (population_size_of S m.dims) (start_gen de m)) _ a z in
-            ended-few (first-named de de-laws m.first c.number h) p.0 p.1 a p.2
+        go : (b : Bool) → discovers m.first c.number ≡ b → Within (discovery de S b m c)
+        go true h = found-few
+        go false h = ended-few (first-named de de-laws m.first c.number h)
 
   -- ---- either, or a refusal
 
-  accepted-few : C.any_bad de c.history ≡ false → (z : Option ℕ) → m.size ≡ z → (a : Accepted de) → accept de S z m c ≡ Some a → Within a
-  accepted-few good None e a y = before-few e a y
-  accepted-few good (Some N) e a y = after-few N e good a y
+  accepted-few : C.any_bad de c.history ≡ false → (z : Option ℕ) → m.size ≡ z → Within (accept de S z m c)
+  accepted-few good None e = before-few e
+  accepted-few good (Some N) e = after-few N e good
 
   pub step-few : (step de S m c).draws ≤ step_ceiling S.strategy m (step de S m c).state c.number
   unfolding step
-  step-few = go (or_else (call_refusal de c) (state_refusal de m.size m c)) (accept de S m.size m c) refl refl
+  step-few = go (or_else (call_refusal de c) (state_refusal de m.size m c)) refl
     where
-      go : (r : Option ℕ) (o : Option (Accepted de)) → or_else (call_refusal de c) (state_refusal de m.size m c) ≡ r → accept de S m.size m c ≡ o
-          → (outcome de m r o).draws ≤ step_ceiling S.strategy m (outcome de m r o).state c.number
-      go (Some r) o x y = omega arith
-      go None None x y = omega arith
-      go None (Some a) x y =
+      go : (r : Option ℕ) → or_else (call_refusal de c) (state_refusal de m.size m c) ≡ r
+          → (outcome de m r (accept de S m.size m c)).draws ≤ step_ceiling S.strategy m (outcome de m r (accept de S m.size m c)).state c.number
+      go (Some r) x = omega arith
+      go None x =
           let p = neither (call_refusal de c) (state_refusal de m.size m c) x in
-          accepted-few (not-refused (C.any_bad de c.history) 8 (neither (judged c.distribution.distribution) _ p.0).1) m.size refl a y
+          accepted-few (not-refused (C.any_bad de c.history) 8 (neither (judged c.distribution.distribution) _ p.0).1) m.size refl

@@ -3,20 +3,15 @@
 use Rattle.std.specs.Prelude.{Option, Some, None, slice_get}
 use Prim.Native.Nat.{ℕ, ◌+◌, ◌*◌, ◌≤◌}
 use native.Mathlib.Omega.{arith}
-use mathlib.Core.Path.{◌≡◌, refl, sym, ap, subst}
+use mathlib.Core.Path.{◌≡◌, refl, ap, subst}
 use mathlib.Core.Bool.{Bool, true, false, cond, true≢false}
 use mathlib.Core.List.{List, [], ◌∷◌, map}
 use borrow.Author.Tests.{lt-ltb}
 use lib.Dec.{eqb, ltb}
 use lib.ListN.{length, length-map}
-use Rattle.rng_util.specs.Gen.{Made}
 use Rattle.distribution.specs.declared.DimensionInfo.{DimensionInfo}
-use Rattle.candidates.specs.Space.{space_of}
-use Rattle.candidates.specs.Random.{random_candidate, random_candidates}
-use Rattle.candidates.specs.Nan.{any_nan, any_bad}
 use Rattle.candidates.specs.declared.Candidate.{Candidate}
 use Rattle.candidates.proofs.Count.{candidate-few, candidates-few}
-use Rattle.evolution.specs.Trial.{next_candidates}
 use Rattle.evolution.specs.declared.Setup.{Setup}
 use Rattle.evolution.proofs.Ceiling.{tries, ceiling}
 use Rattle.ledger.specs.Kernel as L
@@ -25,35 +20,26 @@ use Rattle.ledger.specs.Call.{Call}
 use Rattle.ledger.specs.State as Plain
 use Rattle.ledger.specs.State.{Trial, numbers}
 use Rattle.ledger.specs.Assignment.{place_in, next_in, Accepted, setting_of, serve, assign}
-use Rattle.ledger.proofs.Lists.{none≢some, some_inj, past_end}
+use Rattle.ledger.proofs.Lists.{past_end}
 use Rattle.ledger.proofs.Trials.{move-length}
-use Rattle.kernel.specs.De.{de, code_gen, member_of, unless_nan, firsts_of, extra_of, nexts_of}
+use Rattle.kernel.specs.De.{de, code_gen, member_of, firsts_of, extra_of, nexts_of}
 use Rattle.kernel.proofs.Examples.{one-draw}
 
 -- ---- candidates
 
--- what came is what was made
-came : {A : Type 0} (b : Bool) (m : Made A) (x : L.Made ℕ A) → unless_nan b m ≡ Some x → x.gen.draws ≡ m.after.draws
-came true m x e = absurd (none≢some e)
-came false m x e = ap (λ (y : L.Made ℕ _). y.gen.draws) (sym (some_inj e))
-
 module _ (ds : List DimensionInfo) where
-  pub firsts-few : (N : ℕ) (g : L.Gen ℕ) (x : L.Made ℕ (List Candidate)) → firsts_of ds N g ≡ Some x → x.gen.draws ≤ g.draws + N * length ds
+  pub firsts-few : (N : ℕ) (g : L.Gen ℕ) → (firsts_of ds N g).gen.draws ≤ g.draws + N * length ds
   unfolding firsts_of
-  firsts-few N g x e = let m = random_candidates (space_of ds) N (code_gen g) in omega (arith, came (any_bad m.out) m x e, candidates-few ds N (code_gen g))
+  firsts-few N g = candidates-few ds _ (code_gen g)
 
-  pub extra-few : (g : L.Gen ℕ) (x : L.Made ℕ Candidate) → extra_of ds g ≡ Some x → x.gen.draws ≤ g.draws + length ds
+  pub extra-few : (g : L.Gen ℕ) → (extra_of ds g).gen.draws ≤ g.draws + length ds
   unfolding extra_of
-  extra-few g x e = let m = random_candidate (space_of ds) (code_gen g) in omega (arith, came (any_nan m.out.x) m x e, candidate-few ds (code_gen g))
+  extra-few g = candidate-few ds (code_gen g)
 
-  pub nexts-few : (S : Setup) (ps : List (L.Parent Candidate)) (b : ℕ) (g : L.Gen ℕ) (x : L.Made ℕ (List Candidate)) → nexts_of S ds ps b g ≡ Some x
-      → x.gen.draws ≤ g.draws + length ps * (tries S.strategy + length ds)
+  pub nexts-few : (S : Setup) (ps : List (L.Parent Candidate)) (b : ℕ) (g : L.Gen ℕ) → (nexts_of S ds ps b g).gen.draws ≤ g.draws + length ps * (tries S.strategy + length ds)
   unfolding nexts_of
-  nexts-few S ps b g x e =
-      let m = next_candidates S (map member_of ps) b (space_of ds) (code_gen g) in
-      let few : ℕ → ℕ → Type 0 = λ draws k. draws ≤ g.draws + k * (tries S.strategy + length ds) in
-      subst (few x.gen.draws) (length-map ps member_of)
-      (subst (λ (k : ℕ). few k (length (map member_of ps))) (sym (came (any_bad m.out) m x e)) (ceiling S (map member_of ps) b ds (code_gen g)))
+  nexts-few S ps b g =
+      subst (λ (k : ℕ). (nexts_of S ds ps b g).gen.draws ≤ g.draws + k * (tries S.strategy + length ds)) (length-map ps member_of) (ceiling S (map member_of ps) _ ds (code_gen g))
 
 -- ---- settings
 
@@ -87,9 +73,9 @@ pub record FirstServed (t : Plain.State de) (g : L.Gen ℕ) (a : Accepted de) : 
   pub one : length a.state.trials ≡ 1
 
 module _ (S : Setup) (t : Plain.State de) (c : Call de) (g : L.Gen ℕ) (e : t.trials ≡ []) (some-candidate : 1 ≤ length t.candidates) (some_dim : 1 ≤ length t.dims) where
-  pub first-served : (a : Accepted de) → assign de S t c g (slice_get t.candidates (place_in (numbers t.trials) c.number)) ≡ Some a → FirstServed t g a
+  pub first-served : FirstServed t g (assign de S t c g (slice_get t.candidates (place_in (numbers t.trials) c.number)))
   unfolding assign has place_in
-  first-served a x = go (slice_get t.candidates (place_in (numbers t.trials) c.number)) refl x
+  first-served = go (slice_get t.candidates (place_in (numbers t.trials) c.number)) refl
     where
       no_trials : numbers t.trials ≡ []
       no_trials = ap numbers e
@@ -97,13 +83,12 @@ module _ (S : Setup) (t : Plain.State de) (c : Call de) (g : L.Gen ℕ) (e : t.t
       first : place_in (numbers t.trials) c.number ≡ 0
       first = ap (λ (ns : List ℕ). place_in ns c.number) no_trials
 
-      go : (o : Option Candidate) → slice_get t.candidates (place_in (numbers t.trials) c.number) ≡ o → assign de S t c g o ≡ Some a → FirstServed t g a
-      go (Some y) h z =
-          subst (FirstServed t g) (some_inj z)
-          (record {
+      go : (o : Option Candidate) → slice_get t.candidates (place_in (numbers t.trials) c.number) ≡ o → FirstServed t g (assign de S t c g o)
+      go (Some y) h =
+          record {
             draws = serve-new t c t.candidates y g some_dim (ap (λ (ns : List ℕ). has ns c.number) no_trials);
             size = refl;
             dims = refl;
             one = omega (arith, move-length (length t.dims) t.trials c.number, ap length e, first);
-          })
-      go None h z = absurd (omega (arith, past_end t.candidates (place_in (numbers t.trials) c.number) h, first))
+          }
+      go None h = absurd (omega (arith, past_end t.candidates (place_in (numbers t.trials) c.number) h, first))

@@ -1,12 +1,12 @@
--- What the ledger's laws do not see of the kernel, on small inputs: which entry or choice a setting is decoded from, what does not fit, which dimensions N counts, the draws, refusal 11.
+-- What the ledger's laws do not see of the kernel, on small inputs: which entry or choice a setting is decoded from, what does not fit, which dimensions N counts, the draws.
 -- All by computation. Nothing cites them: each is false after a wrong edit that no law would see.
 use Rattle.std.specs.Prelude.{Option, Some, None, ℤ}
 use mathlib.Core.Path.{◌≡◌, refl}
 use mathlib.Core.Bool.{true, false}
 use mathlib.Core.List.{List, [], ◌∷◌, map}
-use Prim.Native.Nat.{ℕ, suc, ◌+◌}
+use Prim.Native.Nat.{ℕ, ◌+◌, ◌*◌, ◌^◌}
 use lib.IntN.{pos}
-use lib.Ieee.{Float, nan, inf, neg, add, of_int, lt, is_nan, of_bits, of_fields, odd}
+use lib.Ieee.{Float, nan, inf, neg, of_int, lt, of_bits, of_fields, odd}
 use Rattle.rng_util.specs.SplitMix.{drawn}
 use Rattle.rng_util.specs.Draws.{unit_of}
 use Rattle.rng_util.specs.Gen.{draw_of}
@@ -14,14 +14,13 @@ use Rattle.rng_util.specs.Many.{many}
 use Rattle.distribution.specs.declared.DimensionInfo.{DimensionInfo}
 use Rattle.distribution.specs.declared.Distribution.TheVariants.{Float as FloatD, Int as IntD, Categorical as CategoricalD}
 use Rattle.distribution.specs.declared.ParamValue.TheVariants.{Float as FloatV, Int as IntV, Categorical}
-use Rattle.distribution.proofs.Examples.{dec}
+use Rattle.distribution.proofs.Examples.{dec, next}
 use Rattle.rounding.specs.Clamp.{clamp_of}
 use Rattle.common.specs.FromInternal.{from_internal}
 use Rattle.common.specs.Random.{random_setting}
 use Rattle.candidates.specs.Space.{continuous_dims, space_of}
 use Rattle.candidates.specs.Candidate.{packed}
-use Rattle.candidates.specs.Random.{random_entry, random_entries, random_choice, random_choices, random_candidate, random_candidates}
-use Rattle.candidates.specs.Nan.{any_nan, any_bad}
+use Rattle.candidates.specs.Random.{random_choice, random_choices}
 use Rattle.candidates.specs.declared.Candidate.{Candidate}
 use Rattle.evolution.specs.Select.{is_free, select_from, indices_of}
 use Rattle.evolution.specs.Mutant.{mutant_entry}
@@ -34,8 +33,8 @@ use Rattle.evolution.specs.declared.DEStrategy.TheVariants.{Rand1, Best1, Curren
 use Rattle.evolution.specs.declared.Setup.{Setup}
 use Rattle.ledger.specs.Words.{all}
 use Rattle.ledger.specs.Kernel as L
-use Rattle.kernel.specs.Fits.{fits, entries_fit, choices_fit}
-use Rattle.kernel.specs.De.{population_size_of, random_of, decode_of, firsts_of, extra_of, nexts_of}
+use Rattle.kernel.specs.Fits.{fits, entry_fits, entries_fit, choices_fit}
+use Rattle.kernel.specs.De.{population_size_of, random_of, decode_of, nexts_of}
 
 -- ---- dimensions of every kind: a choice, Float 0..1 by 0.25, a choice, Int 1..11 by 4
 
@@ -86,8 +85,19 @@ pub fitting :
     ∷ record { x = dec 625 3 ∷ []; choices = 2 ∷ 0 ∷ 4 ∷ 0 ∷ [] }
     ∷ [])
     ≡ true ∷ false ∷ false ∷ false ∷ false ∷ false ∷ false ∷ false ∷ false ∷ []
-unfolding fits entries_fit choices_fit continuous_dims all of_bits of_fields odd neg dec
+unfolding fits entry_fits entries_fit choices_fit continuous_dims all of_bits of_fields odd neg dec
 fitting = refl
+
+-- k × 10 ^ 300
+abbrev big : ℕ → Float
+big k = dec (k * 10 ^ 300) 0
+
+-- An entry may be 4e300 or -4e300, and whatever is smaller in size, as 3e300 and minus zero. Not the next double beyond either, nor NaN, nor an infinity.
+pub fitting-entry :
+    map entry_fits (big 4 ∷ neg (big 4) ∷ big 3 ∷ neg (dec 0 0) ∷ next (big 4) ∷ neg (next (big 4)) ∷ nan ∷ inf false ∷ inf true ∷ [])
+    ≡ true ∷ true ∷ true ∷ true ∷ false ∷ false ∷ false ∷ false ∷ false ∷ []
+unfolding entry_fits next neg dec
+fitting-entry = refl
 
 -- ---- N counts continuous dimensions, two of the four: 10 × 2, and the user's raised to 4
 
@@ -107,19 +117,6 @@ pub one-draw : (d : DimensionInfo) (g : L.Gen ℕ) → (random_of d g).gen ≡ r
 unfolding random_setting draw_of
 one-draw d g = refl
 
--- ---- refusal 11: between bounds that are NaN every entry is, whatever is drawn
-
-abbrev unbounded : List DimensionInfo
-unbounded = floats nan nan None ∷ []
-
-pub first-refused : (n : ℕ) (g : L.Gen ℕ) → firsts_of unbounded (suc n) g ≡ None
-unfolding firsts_of random_candidates random_candidate random_entries random_entry many space_of continuous_dims any_bad any_nan is_nan add
-first-refused n g = refl
-
-pub extra-refused : (g : L.Gen ℕ) → extra_of unbounded g ≡ None
-unfolding extra_of random_candidate random_entries random_entry many space_of continuous_dims any_nan is_nan add
-extra-refused g = refl
-
 -- ---- a later generation
 
 abbrev parent : Float → Float → L.Parent Candidate
@@ -131,8 +128,8 @@ parents = parent (dec 0 0) (dec 2 0) ∷ parent (dec 25 2) (dec 4 0) ∷ parent 
 abbrev start : L.Gen ℕ
 start = record { word = 7; draws = 0 }
 
-abbrev later : List Candidate → ℕ → ℕ → Option (L.Made ℕ (List Candidate))
-later out word draws = Some (record { out = out; gen = record { word = word; draws = draws } })
+abbrev later : List Candidate → ℕ → ℕ → L.Made ℕ (List Candidate)
+later out word draws = record { out = out; gen = record { word = word; draws = draws } }
 
 -- steps 3 and 4 whole, by each strategy from the same word, with best slot 2 and F = CR = 0.5: entries, choices, the word after them and the count of draws
 pub generations :
@@ -156,7 +153,7 @@ pub generations :
     ∷ packed (dec 875 3 ∷ dec 10 0 ∷ []) (0 ∷ 0 ∷ 0 ∷ 0 ∷ [])
     ∷ []) 17026080507310378600 29
     ∷ []
-unfolding nexts_of next_candidates trial_vectors trial_of crossed cross_entry drawn_in mutant_entry indices_of select_from is_free random_choices random_choice many space_of continuous_dims draw_of drawn unit_of clamp_of any_bad any_nan is_nan lt of_int of_bits of_fields odd dec
+unfolding nexts_of next_candidates trial_vectors trial_of crossed cross_entry drawn_in mutant_entry indices_of select_from is_free random_choices random_choice many space_of continuous_dims draw_of drawn unit_of clamp_of lt of_int of_bits of_fields odd dec
 generations = refl
 
 -- Rand1 under midpoint (document 02, W7): four entries beyond a bound are half the sum of the parent's and that bound, one that is exactly 11 stays, and the draws are the same
@@ -168,10 +165,5 @@ pub midpoints :
     ∷ packed (dec 75 2 ∷ dec 11 0 ∷ []) (2 ∷ 0 ∷ 0 ∷ 0 ∷ [])
     ∷ packed (dec 1 0 ∷ dec 55 1 ∷ []) (2 ∷ 0 ∷ 2 ∷ 0 ∷ [])
     ∷ []) 2934021998537672338 31
-unfolding nexts_of next_candidates trial_vectors trial_of crossed cross_entry drawn_in halfway mutant_entry indices_of select_from is_free random_choices random_choice many space_of continuous_dims draw_of drawn unit_of clamp_of any_bad any_nan is_nan lt of_int of_bits of_fields odd dec
+unfolding nexts_of next_candidates trial_vectors trial_of crossed cross_entry drawn_in halfway mutant_entry indices_of select_from is_free random_choices random_choice many space_of continuous_dims draw_of drawn unit_of clamp_of lt of_int of_bits of_fields odd dec
 midpoints = refl
-
--- and 11 for a mutation factor that is NaN, which no accepted set-up has (refusal 1)
-pub later-refused : nexts_of (setup None Rand1 nan) mixed parents 2 start ≡ None
-unfolding nexts_of next_candidates trial_vectors trial_of crossed cross_entry drawn_in mutant_entry indices_of select_from is_free random_choices random_choice many space_of continuous_dims draw_of drawn unit_of clamp_of any_bad any_nan is_nan lt of_int of_bits of_fields odd dec
-later-refused = refl

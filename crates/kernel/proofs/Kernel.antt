@@ -1,20 +1,19 @@
--- The ledger's laws hold of document 01's kernel, so demand 3 holds of the definition over it. Idea: what `some` hands over is what was made, and no entry of it is NaN; the rest is Fit.
-use Rattle.std.specs.Prelude.{Option, Some, None}
-use mathlib.Core.Path.{◌≡◌, refl, subst, ◌∙◌}
-use mathlib.Core.Bool.{Bool, true, false}
-use mathlib.Core.List.{List, map}
+-- The ledger's laws hold of document 01's kernel, so demand 3 holds of the definition over it. Idea: an accepted set-up has F from 0 to 2, so its later candidates fit as their parents do (Fit).
+use Rattle.std.specs.Prelude.{Option, Some, None, Result, is_ok, ⊤}
+use mathlib.Core.Path.{◌≡◌, refl, sym, ◌∙◌}
+use mathlib.Core.Bool.{Bool, true, false, true≢false}
+use mathlib.Core.List.Memᴰ
+use mathlib.Core.List.{List, [], ◌∷◌, map}
 use Prim.Native.Nat.{ℕ, ◌≤◌}
 use native.Mathlib.Omega.{arith}
 use lib.Dec.{T}
-use lib.ListN.{length, length-map}
-use Rattle.rng_util.specs.Gen.{Made}
+use lib.ListN.{length-map}
+use Rattle.distribution.specs.Validate.{refused_if}
 use Rattle.distribution.specs.declared.DimensionInfo.{DimensionInfo}
+use Rattle.distribution.specs.declared.Refusal.{Refusal}
+use Rattle.distribution.specs.declared.Refusal.TheVariants.{MutationFactor}
 use Rattle.history.proofs.Meaning.{counted-not-nan}
-use Rattle.candidates.specs.Space.{continuous_count, space_of}
-use Rattle.candidates.specs.Random.{random_candidate, random_candidates}
-use Rattle.candidates.specs.Nan.{any_nan, any_bad}
 use Rattle.candidates.specs.declared.Candidate.{Candidate}
-use Rattle.evolution.specs.Trial.{next_candidates}
 use Rattle.evolution.specs.declared.Setup.{Setup}
 use Rattle.selection.specs.Size.{size_of}
 use Rattle.ledger.specs.Words.{All}
@@ -22,74 +21,52 @@ use Rattle.ledger.specs.Kernel as L
 use Rattle.ledger.specs.Call.{Call}
 use Rattle.ledger.specs.Sampler.{definition}
 use Rattle.ledger.specs.Claim.{Demand3}
-use Rattle.ledger.proofs.Lists.{none≢some, some_inj}
+use Rattle.ledger.proofs.Lists.{all_nil}
 use Rattle.ledger.proofs.Theorem.{demand3}
 use Rattle.kernel.specs.Fits.{fits}
-use Rattle.kernel.specs.De.{code_gen, member_of, unless_nan, firsts_of, extra_of, nexts_of, de}
+use Rattle.kernel.specs.Setup.{factor_fails, setup_verdict}
+use Rattle.kernel.specs.De.{code_gen, member_of, firsts_of, extra_of, nexts_of, de}
 use Rattle.kernel.proofs.Fit as F
-use Rattle.kernel.proofs.Fit.{Passes}
 
 -- N is 4 at least
 four : (size : Option ℕ) (n : ℕ) → 4 ≤ size_of size n
 four None n = omega arith
 four (Some k) n = omega arith
 
--- what is handed over is what was made, and 11 was not for it
-handed-over : {A : Type 0} (P : A → Type 0) (bad : Bool) (m : Made A) (r : L.Made ℕ A) → unless_nan bad m ≡ Some r → (bad ≡ false → P m.out) → P r.out
-handed-over P true m r e h = absurd (none≢some e)
-handed-over {A} P false m r e h = subst (λ (x : L.Made ℕ A). P x.out) (some_inj e) (h refl)
+-- ---- an accepted set-up
 
-module _ (S : Setup) (ds : List DimensionInfo) where
-  -- ---- lengths
+-- a row that does not refuse hands on to the next
+pub row : (t : Bool) (r : Refusal) (v : Result ⊤ Refusal) → is_ok (refused_if t r v) ≡ true → (t ≡ false) × (is_ok v ≡ true)
+row true r v e = absurd (true≢false (sym e))
+row false r v e = (refl, e)
 
-  firsts_length : (n : ℕ) (g : L.Gen ℕ) (r : L.Made ℕ (List Candidate)) → firsts_of ds n g ≡ Some r → length r.out ≡ n
-  unfolding firsts_of
-  firsts_length n g r e =
-      let m = random_candidates (space_of ds) n (code_gen g) in
-      handed-over (λ cs. length cs ≡ n) (any_bad m.out) m r e (λ _. F.firsts_length ds n (code_gen g))
+-- F from 0 to 2
+factor-passes : (S : Setup) → is_ok (setup_verdict S) ≡ true → factor_fails S.mutation_factor ≡ false
+unfolding setup_verdict
+factor-passes S e = (row (factor_fails S.mutation_factor) MutationFactor _ e).0
 
-  nexts_length : (ps : List (L.Parent Candidate)) (b : ℕ) (g : L.Gen ℕ) (r : L.Made ℕ (List Candidate)) → nexts_of S ds ps b g ≡ Some r → length r.out ≡ length ps
-  unfolding nexts_of
-  nexts_length ps b g r e =
-      let m = next_candidates S (map member_of ps) b (space_of ds) (code_gen g) in
-      handed-over (λ cs. length cs ≡ length ps) (any_bad m.out) m r e (λ _. F.nexts_length ds S (map member_of ps) b (code_gen g) ∙ length-map ps member_of)
+-- ---- the laws
 
-  -- ---- fitting
-
-  module _ (h : All Passes ds) where
-    firsts_fit : (n : ℕ) (g : L.Gen ℕ) (r : L.Made ℕ (List Candidate)) → firsts_of ds n g ≡ Some r → All (λ y. T (fits ds y)) r.out
-    unfolding firsts_of
-    firsts_fit n g r e =
-        let m = random_candidates (space_of ds) n (code_gen g) in
-        handed-over (All (λ y. T (fits ds y))) (any_bad m.out) m r e (F.none-bad ds h m.out (F.firsts_fit ds h n (code_gen g)))
-
-    extra_fits : (g : L.Gen ℕ) (r : L.Made ℕ Candidate) → extra_of ds g ≡ Some r → T (fits ds r.out)
-    unfolding extra_of
-    extra_fits g r e =
-        let m = random_candidate (space_of ds) (code_gen g) in
-        handed-over (λ y. T (fits ds y)) (any_nan m.out.x) m r e (F.random-fits ds h (code_gen g))
-
-    nexts_fit : (ps : List (L.Parent Candidate)) (b : ℕ) (g : L.Gen ℕ) (r : L.Made ℕ (List Candidate)) → nexts_of S ds ps b g ≡ Some r → All (λ y. T (fits ds y)) r.out
-    unfolding nexts_of
-    nexts_fit ps b g r e =
-        let m = next_candidates S (map member_of ps) b (space_of ds) (code_gen g) in
-        handed-over (All (λ y. T (fits ds y))) (any_bad m.out) m r e (F.none-bad ds h m.out (F.nexts_fit ds h S (map member_of ps) b (code_gen g)))
-
--- ---- the laws. The parents' fitting is not needed: new entries are clamped.
+-- the parents as the code's members
+members-fit : (ds : List DimensionInfo) (ps : List (L.Parent Candidate)) → All (λ p. T (fits ds p.candidate)) ps → All (F.MemberFits ds) (map member_of ps)
+members-fit ds [] h = all_nil (F.MemberFits ds)
+members-fit ds (p ∷ ps) h = F.all_cons (F.MemberFits ds) (member_of p) (map member_of ps) (h p (Memᴰ.head refl)) (members-fit ds ps (λ a t. h a (Memᴰ.tail t)))
 
 pub de-laws : L.Laws de
+unfolding firsts_of extra_of nexts_of
 de-laws =
     record {
-      sized = λ S ds. four S.population_size (continuous_count ds);
-      firsts_length = firsts_length;
-      nexts_length = nexts_length;
+      sized = λ S ds. four S.population_size _;
+      firsts_length = λ S ds n g. F.firsts_length ds _ (code_gen g);
+      nexts_length = λ S ds ps b g. F.nexts_length ds S (map member_of ps) _ (code_gen g) ∙ length-map ps member_of;
       fits_exact = λ ds y. (λ t. t, λ t. t);
       counts = counted-not-nan;
-      firsts_fit = λ S ds n g r h e. firsts_fit S ds h n g r e;
-      extra_fits = λ S ds g r h e. extra_fits S ds h g r e;
-      nexts_fit = λ S ds ps b g r h k e. nexts_fit S ds h ps b g r e;
+      firsts_fit = λ S ds n g h. F.firsts_fit ds h _ (code_gen g);
+      extra_fits = λ S ds g h. F.random-fits ds h (code_gen g);
+      nexts_fit = λ S ds ps b g ok h k size below.
+          F.nexts_fit ds h S (factor-passes S ok) (map member_of ps) _ (code_gen g) (members-fit ds ps k) (omega (arith, length-map ps member_of)) (omega (arith, length-map ps member_of));
     }
 
--- DEMAND 3 of the definition over this kernel, for every set-up and every list of calls
-pub de-demand3 : (S : Setup) (cs : List (Call de)) → Demand3 de (definition de S) S cs
-de-demand3 S cs = demand3 de de-laws S cs
+-- DEMAND 3 of the definition over this kernel, for every accepted set-up and every list of calls
+pub de-demand3 : (S : Setup) → is_ok (setup_verdict S) ≡ true → (cs : List (Call de)) → Demand3 de (definition de S) S cs
+de-demand3 S ok cs = demand3 de de-laws S ok cs

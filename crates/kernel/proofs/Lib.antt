@@ -1,7 +1,7 @@
 pub mod Examples
 pub mod Within
+pub mod Small
 pub mod Fit
-pub mod Random
 pub mod Kernel
 pub mod Link
 pub mod Drawn

@@ -1,5 +1,5 @@
 -- The kernel of document 01: what the ledger does not look into, made of the leaves' definitions. Demand 2's definition is the ledger's `sample` over it.
-use Rattle.std.specs.Prelude.{ℕ, Bool, cond, List, map, T, get_or, Option, Some, None}
+use Rattle.std.specs.Prelude.{ℕ, cond, List, map, T, get_or, is_ok}
 use Rattle.rng_util.specs.Gen.{Made}
 use Rattle.rng_util.specs.declared.Gen.{Gen}
 use Rattle.distribution.specs.Dims.{is_continuous, no_dim}
@@ -15,13 +15,13 @@ use Rattle.history.specs.declared.CompletedTrial.{CompletedTrial}
 use Rattle.candidates.specs.Space.{continuous_count, space_of}
 use Rattle.candidates.specs.Candidate.{entry_of, choice_of, continuous_place}
 use Rattle.candidates.specs.Random.{random_candidate, random_candidates}
-use Rattle.candidates.specs.Nan.{any_nan, any_bad}
 use Rattle.candidates.specs.declared.Candidate.{Candidate}
 use Rattle.evolution.specs.Trial.{next_candidates}
 use Rattle.evolution.specs.declared.Member.{Member}
 use Rattle.evolution.specs.declared.Setup.{Setup}
 use Rattle.selection.specs.Size.{size_of}
 use Rattle.ledger.specs.Kernel as L
+use Rattle.kernel.specs.Setup.{setup_verdict}
 use Rattle.kernel.specs.Fits.{fits}
 
 -- ---- the ledger's records and the code's, which hold the same
@@ -55,22 +55,19 @@ decode_of ds k y =
     (from_internal (entry_of y (continuous_place ds (dim_idx k))) d.distribution)
     (Categorical (choice_of y (dim_idx k)))
 
--- ---- candidates; 11: "a new candidate's entry is NaN"
-
-abbrev pub unless_nan : {A : Type 0} → Bool → Made A → Option (L.Made ℕ A)
-unless_nan bad m = cond bad None (Some (made m))
+-- ---- candidates
 
 -- "fills N random candidates"
-unfoldable pub firsts_of : List DimensionInfo → ℕ → L.Gen ℕ → Option (L.Made ℕ (List Candidate))
-firsts_of ds N g = let m = random_candidates (space_of ds) N (code_gen g) in unless_nan (any_bad m.out) m
+unfoldable pub firsts_of : List DimensionInfo → ℕ → L.Gen ℕ → L.Made ℕ (List Candidate)
+firsts_of ds N g = made (random_candidates (space_of ds) N (code_gen g))
 
 -- "each extra gets a random candidate"
-unfoldable pub extra_of : List DimensionInfo → L.Gen ℕ → Option (L.Made ℕ Candidate)
-extra_of ds g = let m = random_candidate (space_of ds) (code_gen g) in unless_nan (any_nan m.out.x) m
+unfoldable pub extra_of : List DimensionInfo → L.Gen ℕ → L.Made ℕ Candidate
+extra_of ds g = made (random_candidate (space_of ds) (code_gen g))
 
 -- "New candidates: steps 3 and 4 if n > 0, else step 2"
-unfoldable pub nexts_of : Setup → List DimensionInfo → List (L.Parent Candidate) → ℕ → L.Gen ℕ → Option (L.Made ℕ (List Candidate))
-nexts_of S ds ps best g = let m = next_candidates S (map member_of ps) best (space_of ds) (code_gen g) in unless_nan (any_bad m.out) m
+unfoldable pub nexts_of : Setup → List DimensionInfo → List (L.Parent Candidate) → ℕ → L.Gen ℕ → L.Made ℕ (List Candidate)
+nexts_of S ds ps best g = made (next_candidates S (map member_of ps) best (space_of ds) (code_gen g))
 
 -- ---- the kernel
 
@@ -83,6 +80,7 @@ de =
       Candidate = Candidate;
       Word = ℕ;
       Entry = CompletedTrial;
+      accepts = λ S. is_ok (setup_verdict S);
       seed = λ S. S.seed;
       judged = λ d. judged d.distribution;
       size_of = population_size_of;

@@ -15,7 +15,6 @@ use lib.ListN.{length, take, drop, get_or, replicate, length-append}
 use lib.Seq.{take_at, drop_at, get_or_at}
 use Rattle.rng_util.specs.Many.{pad_to, listed}
 use Rattle.distribution.specs.Dims.{is_continuous, choices_of}
-use Rattle.distribution.specs.Validate.{is_finite}
 use Rattle.distribution.specs.declared.DimensionInfo.{DimensionInfo}
 use Rattle.distribution.specs.declared.Distribution.{Distribution}
 use Rattle.distribution.specs.declared.Distribution.TheVariants as D
@@ -31,7 +30,7 @@ use Rattle.evolution.specs.Strategy.{strategy_number}
 use Rattle.evolution.specs.declared.DEStrategy.{DEStrategy}
 use Rattle.evolution.specs.declared.Member.{Member}
 use Rattle.evolution.specs.declared.Setup.{Setup}
-use Rattle.kernel.specs.Fits.{is_zero, entries_fit, choice_limit, choices_fit, fits}
+use Rattle.kernel.specs.Fits.{is_zero, entry_fits, entries_fit, choice_limit, choices_fit, fits}
 use Rattle.state.specs.declared.TrialProgress.{TrialProgress}
 use Rattle.std.proofs.lemmas.Bool.{and_parts}
 use Rattle.state.proofs.Floats.{zero-true}
@@ -248,7 +247,7 @@ entries-after : (n : ℕ) (xs : List Float) → entries_fit n xs ≡ true → (n
 unfolding entries_fit
 entries-after zero xs e = (omega arith, e)
 entries-after (suc n) [] e = absurd (true≢false (sym e))
-entries-after (suc n) (x ∷ xs) e = let r = entries-after n xs (and_parts (is_finite x) (entries_fit n xs) e).1 in (omega (arith, r.0), r.1)
+entries-after (suc n) (x ∷ xs) e = let r = entries-after n xs (and_parts (entry_fits x) (entries_fit n xs) e).1 in (omega (arith, r.0), r.1)
 
 choices-after : (ds : List DimensionInfo) (cs : List ℕ) → choices_fit ds cs ≡ true → (length ds ≤ length cs) × (all (eqb 0) (drop (length ds) cs) ≡ true)
 unfolding choices_fit

@@ -1,12 +1,12 @@
 -- Each call keeps what holds where a list stands: first of the definition's call, whatever comes of it, then of a sampler that meets the definition.
-use Rattle.std.specs.Prelude.{Option, Some, None, IsSome, is_none, slice_get}
-use Rattle.ledger.specs.Words.{or_else, refuse_if}
+use Rattle.std.specs.Prelude.{Option, Some, None, IsSome, slice_get}
+use Rattle.ledger.specs.Words.{or_else}
 use Rattle.ledger.specs.Kernel.{Kernel, Laws}
 use Rattle.ledger.specs.Call.{Call, any_bad, call_refusal}
 use Rattle.ledger.specs.State.{State, fresh, given, Returned, refuse}
 use Rattle.ledger.specs.Assignment.{Accepted}
 use Rattle.ledger.specs.Soundness.{Sound}
-use Rattle.ledger.specs.Sample.{state_refusal, accept, outcome, step, sample, eleven_at}
+use Rattle.ledger.specs.Sample.{state_refusal, accept, outcome, step, sample}
 use Rattle.ledger.specs.Ledger.{Ledger, empty, refusal_of, accepted, unless_refused, enter_call}
 use Rattle.ledger.specs.Idle.{idle_since}
 use Rattle.ledger.specs.Sampler.{Sampler, viewed, Meets}
@@ -16,8 +16,8 @@ use Rattle.ledger.proofs.Agree.{refusals-agree}
 use Rattle.ledger.proofs.Sound.{accept-sound, fresh-sound}
 use Rattle.ledger.proofs.SoundTest.{sample-step, sample-sound}
 use Rattle.ledger.proofs.Invariant.{Right, Inv, Seen, add-moment, seen-now}
-use Rattle.ledger.proofs.Accept.{accept-ok}
-use mathlib.Core.Bool.{true≢false}
+use Rattle.ledger.proofs.Accept.{Full, accept-ok}
+use mathlib.Core.Bool.{true, true≢false}
 use mathlib.Core.Path.{◌≡◌, refl, sym, ap, subst, ◌∙◌}
 use mathlib.Core.Logic.{◌↔◌}
 use mathlib.Core.List.Memᴰ
@@ -27,18 +27,16 @@ use native.Mathlib.Omega.{arith}
 use lib.ListN.{length}
 
 module _ (K : Kernel) (L : Laws K) where
-  open K use {Setup, Candidate, judged, decode, Fits}
+  open K use {Setup, Candidate, accepts, judged, decode, Fits}
 
   -- what can come of a call of the definition: a refusal, or an accepted call that no refusal is for
-  outcomes : (P : Returned K (State K) → Option ℕ → Type 0) (s : State K) (a b : Option ℕ) (o : Option (Accepted K)) → ((r : ℕ) → P (refuse K r s) (Some r))
-      → ((x : Accepted K) → a ≡ None → b ≡ None → o ≡ Some x → P (record { answer = given x.setting; draws = x.draws; state = x.state }) None)
-      → P (outcome K s (or_else a b) o) (or_else a (or_else b (refuse_if (is_none o) 11)))
-  outcomes P s (Some r) b o f g = f r
-  outcomes P s None (Some r) o f g = f r
-  outcomes P s None None None f g = f 11
-  outcomes P s None None (Some x) f g = g x refl refl refl
+  outcomes : (P : Returned K (State K) → Option ℕ → Type 0) (s : State K) (a b : Option ℕ) (x : Accepted K) → ((r : ℕ) → P (refuse K r s) (Some r))
+      → (a ≡ None → b ≡ None → P (record { answer = given x.setting; draws = x.draws; state = x.state }) None) → P (outcome K s (or_else a b) x) (or_else a b)
+  outcomes P s (Some r) b x f g = f r
+  outcomes P s None (Some r) x f g = f r
+  outcomes P s None None x f g = g refl refl
 
-  module _ (X : Sampler K) (S : Setup) where
+  module _ (X : Sampler K) (S : Setup) (ok : accepts S ≡ true) where
     -- ---- the definition's call
 
     module _ (ms : List (Moment K X S)) (s : State K) (l : Ledger K) (c : Call K) (v : Inv K L X S ms s l) (u : Sound K S s) (seen : Seen K L X S ms l) where
@@ -54,16 +52,19 @@ module _ (K : Kernel) (L : Laws K) where
         setting : (i k : ℕ) → k < length (next f).dims → (f ≡ None) × (slice_get (next f).open_trials i ≡ Some (record { number = c.number; calls = suc k }))
             → (y : Candidate) × (slice_get r.state.candidates i ≡ Some y) × Fits (next f).dims y × (setting_in K r.answer ≡ Some (decode (next f).dims k y))
 
-      shown-step : Shown (step K S s c) (refusal_of K l c (eleven_at K S s c))
-      unfolding step refusal_of eleven_at
+      shown-step : Shown (step K S s c) (refusal_of K l c)
+      unfolding step refusal_of
       shown-step =
           rw (← (refusals-agree K L s l c v.corr))
           (outcomes Shown s (call_refusal K c) (state_refusal K s.size s c) (accept K S s.size s c)
           (λ r. record { inv = v; refusal = refl; back = λ t. (refl, refl, refl); closes = (λ h. absurd (omega arith), λ h. absurd (omega arith)); setting = λ i k b x. absurd (none≢some (sym x.0)) })
-          (λ x p q e.
+          (λ p q.
           let good = not-refused (any_bad K c.history) 8 (neither (judged c.distribution) _ p).1 in
-          let f = accept-sound K L S s u c p s.size refl q x e in
-          let d = accept-ok K L X S ms s l v u seen c good x f l.size refl (subst (λ (z : Option ℕ). accept K S z s c ≡ Some x) v.corr.size e) in
+          let f = accept-sound K L S ok s u c p s.size refl q in
+          let d =
+          subst (λ (z : Option ℕ). Full K L X S ms s l c.number (accept K S s.size s c) (accepted K S z l c)) v.corr.size
+          (accept-ok K L X S ok ms s l v u seen c good s.size (sym v.corr.size) f)
+          in
           record {
             inv = d.done.inv;
             refusal = refl;
@@ -72,8 +73,8 @@ module _ (K : Kernel) (L : Laws K) where
             setting = λ i k b y. let h = d.done.handed i k b y.1 in (h.0, h.1, h.2, ap Some h.3);
           }))
 
-      shown : Shown (sample K S s c) (refusal_of K l c (eleven_at K S s c))
-      shown = subst (λ (r : Returned K (State K)). Shown r (refusal_of K l c (eleven_at K S s c))) (sym (sample-step K L S s c u)) shown-step
+      shown : Shown (sample K S s c) (refusal_of K l c)
+      shown = subst (λ (r : Returned K (State K)). Shown r (refusal_of K l c)) (sym (sample-step K L S s c u)) shown-step
 
     -- ---- the sampler's call, and a list of them
 
@@ -134,7 +135,7 @@ module _ (K : Kernel) (L : Laws K) where
         goes_on =
             record {
               inv = add-moment K L X S ms m r.inv right;
-              sound = sample-sound K L S p.defined c h.sound;
+              sound = sample-sound K L S ok p.defined c h.sound;
               seen = seen-now K L X S ms m;
               clean = clean;
               agrees = state;

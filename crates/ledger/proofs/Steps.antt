@@ -1,16 +1,16 @@
 -- Steps 6 and 5 on a sound state: what a closing leaves, and what an assignment leaves, as records of facts that the later files go by.
 use Rattle.std.specs.Prelude.{Option, Some, None, slice_get}
 use Rattle.ledger.specs.Words.{All}
-use Rattle.ledger.specs.Kernel.{Gen, Made, Kernel, Laws}
+use Rattle.ledger.specs.Kernel.{Gen, Made, Parent, Kernel, Laws}
 use Rattle.ledger.specs.Call.{Call}
-use Rattle.ledger.specs.State.{Trial, numbers, State}
+use Rattle.ledger.specs.State.{Trial, numbers, State, values}
 use Rattle.ledger.specs.Closing.{up, new_idle, new_parents, settle, reopen, close}
 use Rattle.ledger.specs.Assignment.{place_in, move, Accepted, serve, assign}
 use Rattle.ledger.specs.Soundness.{Running, Sound}
-use Rattle.ledger.proofs.Lists.{none≢some, some_inj, bind-some, at-below, past_end, snoc_old, snoc_new, snoc-length, all_nil, all_snoc, length-map}
+use Rattle.ledger.proofs.Lists.{none≢some, some_inj, at-below, past_end, snoc_old, snoc_new, snoc-length, all_nil, all_snoc, length-map}
 use Rattle.ledger.proofs.Trials.{place-le, move-length}
 use Rattle.ledger.proofs.Results.{Counted}
-use Rattle.ledger.proofs.Slots.{store_length, store-all, select-length, select-all}
+use Rattle.ledger.proofs.Slots.{store_length, store-all, select-length, select-all, best-below}
 use mathlib.Core.Path.{◌≡◌, refl, sym, ap, subst, ◌∙◌}
 use mathlib.Core.Logic.{◌≢◌}
 use mathlib.Core.Bool.{Bool, true, false}
@@ -21,8 +21,8 @@ use lib.ListN.{length}
 use lib.Ieee.{Float, nan}
 
 module _ (K : Kernel) (L : Laws K) where
-  open K use {Setup, Candidate, Word, extra, nexts, Fits}
-  open L use {nexts_length, nexts_fit, extra_fits}
+  open K use {Setup, Candidate, Word, accepts, extra, nexts, Fits}
+  open L use {sized, nexts_length, nexts_fit, extra_fits}
 
   -- ---- step 6
 
@@ -85,18 +85,21 @@ module _ (K : Kernel) (L : Laws K) where
     pub many : length cs ≡ N
     pub fit : All (Fits s.dims) cs
 
-  pub closing : (S : Setup) (N : ℕ) (s : State K) → Sound K S s → s.size ≡ Some N → (many : ℕ) (row : List Float) → Counted K L N many row → (g : Gen Word) (m : Made Word (State K)) → close K S s g (Some row) ≡ Some m
-      → Reopened N s row m
+  pub closing : (S : Setup) → accepts S ≡ true → (N : ℕ) (s : State K) → Sound K S s → s.size ≡ Some N → (many : ℕ) (row : List Float)
+      → Counted K L N many row → (g : Gen Word) → Reopened N s row (close K S s g (Some row))
   unfolding close
-  closing S N s v sz many row q g m e =
+  closing S ok N s v sz many row q g =
       let w = v.after N sz in
       let o = settle K s.slots s.candidates row in
-      let p = bind-some (nexts S s.dims o.parents o.best g) _ m e in
+      let each : length o.parents ≡ N = slots_length S N s w many row q in
+      let four : 4 ≤ length o.parents = omega (arith, sized S s.dims, w.sized, each) in
+      let vs : length (values K o.parents) ≡ length o.parents = length-map (λ (p : Parent Candidate). p.value) o.parents in
       record {
-        cs = p.0.out;
-        is = ap (λ (x : Made Word (State K)). x.out) (sym (some_inj p.2));
-        many = nexts_length S s.dims o.parents o.best g p.0 p.1 ∙ slots_length S N s w many row q;
-        fit = nexts_fit S s.dims o.parents o.best g p.0 v.dims_pass (λ x y. (slots-all S N s w many row q x y).0) p.1;
+        cs = (nexts S s.dims o.parents o.best g).out;
+        is = refl;
+        many = nexts_length S s.dims o.parents o.best g ∙ each;
+        fit = nexts_fit S s.dims o.parents o.best g ok v.dims_pass (λ x y. (slots-all S N s w many row q x y).0) four
+            (omega (arith, best-below (values K o.parents) (omega (arith, vs, four)), vs));
       }
 
   -- ---- step 5
@@ -112,10 +115,13 @@ module _ (K : Kernel) (L : Laws K) where
     pub kept : (i : ℕ) → i < N → slice_get cs i ≡ slice_get s.candidates i
     pub fit : All (Fits s.dims) cs
 
-  pub assigned : (S : Setup) (N : ℕ) (s : State K) → Sound K S s → s.size ≡ Some N → (c : Call K) (g : Gen Word) (a : Accepted K)
-      → assign K S s c g (slice_get s.candidates (place_in (numbers s.trials) c.number)) ≡ Some a → Assigned N s c a
+  -- step 5 on a state: assignment by the candidate at the trial's place
+  abbrev pub assign_on : Setup → Call K → Gen Word → State K → Accepted K
+  assign_on S c g t = assign K S t c g (slice_get t.candidates (place_in (numbers t.trials) c.number))
+
+  pub assigned : (S : Setup) (N : ℕ) (s : State K) → Sound K S s → s.size ≡ Some N → (c : Call K) (g : Gen Word) → Assigned N s c (assign_on S c g s)
   unfolding assign
-  assigned S N s v sz c g a e = go (slice_get s.candidates (place_in (numbers s.trials) c.number)) refl e
+  assigned S N s v sz c g = go (slice_get s.candidates (place_in (numbers s.trials) c.number)) refl
     where
       w : Running K S N s
       w = v.after N sz
@@ -126,29 +132,29 @@ module _ (K : Kernel) (L : Laws K) where
       moved : length (move (length s.dims) s.trials c.number) ≡ max (length s.trials) (suc (place_in (numbers s.trials) c.number))
       moved = move-length (length s.dims) s.trials c.number
 
-      go : (o : Option Candidate) → slice_get s.candidates (place_in (numbers s.trials) c.number) ≡ o → assign K S s c g o ≡ Some a → Assigned N s c a
-      go (Some y) x z =
+      go : (o : Option Candidate) → slice_get s.candidates (place_in (numbers s.trials) c.number) ≡ o → Assigned N s c (assign K S s c g o)
+      go (Some y) x =
           record {
             cs = s.candidates;
             y = y;
             gen = g;
-            is = sym (some_inj z);
+            is = refl;
             at = x;
             many = omega (arith, at-below s.candidates (place_in (numbers s.trials) c.number) y x, w.candidates, small, moved);
             kept = λ i b. refl;
             fit = w.fit;
           }
-      go None x z =
+      go None x =
           -- a new extra: its place is the candidates' end
           let end : place_in (numbers s.trials) c.number ≡ length s.candidates = omega (arith, past_end s.candidates (place_in (numbers s.trials) c.number) x, w.candidates, small) in
-          let p = bind-some (extra S s.dims g) _ a z in
+          let m = extra S s.dims g in
           record {
-            cs = s.candidates ++ (p.0.out ∷ []);
-            y = p.0.out;
-            gen = p.0.gen;
-            is = sym (some_inj p.2);
-            at = ap (slice_get (s.candidates ++ (p.0.out ∷ []))) end ∙ snoc_new s.candidates p.0.out;
-            many = omega (arith, snoc-length s.candidates p.0.out, end, w.candidates, small, moved);
-            kept = λ i b. snoc_old s.candidates p.0.out i (omega (arith, w.candidates));
-            fit = all_snoc (Fits s.dims) s.candidates p.0.out w.fit (extra_fits S s.dims g p.0 v.dims_pass p.1);
+            cs = s.candidates ++ (m.out ∷ []);
+            y = m.out;
+            gen = m.gen;
+            is = refl;
+            at = ap (slice_get (s.candidates ++ (m.out ∷ []))) end ∙ snoc_new s.candidates m.out;
+            many = omega (arith, snoc-length s.candidates m.out, end, w.candidates, small, moved);
+            kept = λ i b. snoc_old s.candidates m.out i (omega (arith, w.candidates));
+            fit = all_snoc (Fits s.dims) s.candidates m.out w.fit (extra_fits S s.dims g v.dims_pass);
           }

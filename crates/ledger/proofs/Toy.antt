@@ -1,14 +1,13 @@
 -- A small kernel that meets the laws, so that demand 3 is not said of nothing: candidates, settings and the generator's word are numbers.
-use Rattle.std.specs.Prelude.{Option, Some, None}
-use Rattle.ledger.specs.Kernel.{Gen, Made, Parent, Kernel, Laws}
-use Rattle.ledger.proofs.Lists.{none≢some, some_inj, length-map}
-use mathlib.Core.Path.{◌≡◌, refl, sym, ap, ◌∙◌}
+use Rattle.std.specs.Prelude.{Some, None}
+use Rattle.ledger.specs.Kernel.{Parent, Kernel, Laws}
+use Rattle.ledger.proofs.Lists.{length-map}
+use mathlib.Core.Path.{◌≡◌, refl, sym, ap}
 use mathlib.Core.Logic.{◌≢◌}
-use mathlib.Core.Bool.{Bool, true, false, cond, true≢false}
+use mathlib.Core.Bool.{Bool, true, false, true≢false}
 use mathlib.Core.List.{List, [], ◌∷◌, map}
 use Prim.Native.Nat.{ℕ, zero, suc, ◌+◌, ◌*◌, max}
 use native.Mathlib.Omega.{arith}
-use lib.Dec.{eqb}
 use lib.ListN.{length}
 use lib.Ieee.{Float, nan, inf, fin}
 
@@ -39,13 +38,8 @@ from-length w (suc n) = ap suc (from-length (suc w) n)
 abbrev pub later : List (Parent ℕ) → List ℕ
 later = map (λ (p : Parent ℕ). p.candidate + 100)
 
--- what came through a test
-pub came : (b : Bool) (ys : List ℕ) (g : Gen ℕ) (m : Made ℕ (List ℕ)) → cond {A = Option (Made ℕ (List ℕ))} b None (Some (record { out = ys; gen = g })) ≡ Some m → m.out ≡ ys
-came true ys g m e = absurd (none≢some e)
-came false ys g m e = ap (λ (x : Made ℕ (List ℕ)). x.out) (sym (some_inj e))
-
--- A candidate is the word itself, a later one its slot's parent and 100, and where the best slot is 3 there are none (refusal 11); the setting of
--- dimension k is ten times the candidate and k; a random setting is the distribution itself, and 0 is refused by 7.
+-- A candidate is the word itself, a later one its slot's parent and 100; the setting of dimension k is ten times the candidate and k; a random setting is
+-- the distribution itself, and 0 is refused by 7.
 abbrev pub toy : Kernel
 toy =
     record {
@@ -55,13 +49,14 @@ toy =
       Candidate = ℕ;
       Word = ℕ;
       Entry = Entry;
+      accepts = λ S. true;
       seed = λ S. 7;
       judged = λ d. elim d [ zero ↦ Some 7 | suc k ↦ None ];
       size_of = λ S ds. max 4 S;
       random = λ d g. record { out = d; gen = record { word = suc g.word; draws = suc g.draws } };
-      firsts = λ S ds n g. Some (record { out = from g.word n; gen = record { word = n + g.word; draws = n + g.draws } });
-      extra = λ S ds g. Some (record { out = g.word; gen = record { word = suc g.word; draws = suc g.draws } });
-      nexts = λ S ds ps b g. cond (eqb b 3) None (Some (record { out = later ps; gen = g }));
+      firsts = λ S ds n g. record { out = from g.word n; gen = record { word = n + g.word; draws = n + g.draws } };
+      extra = λ S ds g. record { out = g.word; gen = record { word = suc g.word; draws = suc g.draws } };
+      nexts = λ S ds ps b g. record { out = later ps; gen = g };
       decode = λ ds k y. y * 10 + k;
       number_of = λ e. e.number;
       value_of = λ e. e.value;
@@ -74,11 +69,11 @@ abbrev pub toy-laws : Laws toy
 toy-laws =
     record {
       sized = λ S ds. omega arith;
-      firsts_length = λ S ds n g m e. ap (λ (x : Made ℕ (List ℕ)). length x.out) (sym (some_inj e)) ∙ from-length g.word n;
-      nexts_length = λ S ds ps b g m e. ap length (came (eqb b 3) (later ps) g m e) ∙ length-map (λ (p : Parent ℕ). p.candidate + 100) ps;
+      firsts_length = λ S ds n g. from-length g.word n;
+      nexts_length = λ S ds ps b g. length-map (λ (p : Parent ℕ). p.candidate + 100) ps;
       fits_exact = λ ds y. (λ t. tt, λ t. tt);
       counts = λ e h. not-nan e.value h;
-      firsts_fit = λ S ds n g m h e y t. tt;
-      extra_fits = λ S ds g m h e. tt;
-      nexts_fit = λ S ds ps b g m h k e y t. tt;
+      firsts_fit = λ S ds n g h y t. tt;
+      extra_fits = λ S ds g h. tt;
+      nexts_fit = λ S ds ps b g ok h k four l y t. tt;
     }

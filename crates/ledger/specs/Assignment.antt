@@ -1,5 +1,4 @@
 -- Step 5: "a trial new to the open generation gets the next candidate, the i-th trial that of slot i."
-use Rattle.ledger.specs.Words.{◌>>=◌}
 use Rattle.ledger.specs.Kernel.{Gen, Made, Kernel}
 use Rattle.ledger.specs.Call.{Call}
 use Rattle.ledger.specs.State.{Trial, State}
@@ -62,8 +61,6 @@ module _ (K : Kernel) where
 
   -- By the candidate at the trial's place. Where there is none, N trials have theirs and this one is a new EXTRA: "After N trials each extra gets a random
   -- candidate and never competes."
-  unfoldable pub assign : Setup → State K → Call K → Gen Word → Option Candidate → Option Accepted
-  assign S s c g (Some y) = Some (serve s c s.candidates y g)
-  assign S s c g None = do
-    m ← extra S s.dims g
-    Some (serve s c (s.candidates ++ (m.out ∷ [])) m.out m.gen)
+  unfoldable pub assign : Setup → State K → Call K → Gen Word → Option Candidate → Accepted
+  assign S s c g (Some y) = serve s c s.candidates y g
+  assign S s c g None = let m = extra S s.dims g in serve s c (s.candidates ++ (m.out ∷ [])) m.out m.gen

@@ -96,9 +96,9 @@ module _ (K : Kernel) where
   reopen s o cs = record { word = s.word; first = s.first; dims = s.dims; size = s.size; candidates = cs; trials = []; slots = o }
 
   -- counted results close the generation; without them nothing happens
-  unfoldable pub close : Setup → State K → Gen Word → Option (List Float) → Option (Made Word (State K))
-  close S s g None = Some (record { out = s; gen = g })
-  close S s g (Some row) = do
-    let o = settle s.slots s.candidates row
-    m ← nexts S s.dims o.parents o.best g
-    Some (record { out = reopen s o m.out; gen = m.gen })
+  unfoldable pub close : Setup → State K → Gen Word → Option (List Float) → Made Word (State K)
+  close S s g None = record { out = s; gen = g }
+  close S s g (Some row) =
+      let o = settle s.slots s.candidates row in
+      let m = nexts S s.dims o.parents o.best g in
+      record { out = reopen s o m.out; gen = m.gen }

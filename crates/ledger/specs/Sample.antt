@@ -1,5 +1,5 @@
 -- The sample call: step 1, the refusals in their order, and what comes of a call. This is demand 2's definition, but for the kernel.
-use Rattle.ledger.specs.Words.{or_else, ◌>>=◌, refuse_if, has}
+use Rattle.ledger.specs.Words.{or_else, refuse_if, has}
 use Rattle.ledger.specs.Kernel.{Gen, Made, Kernel}
 use Rattle.ledger.specs.Call.{Call, call_refusal}
 use Rattle.ledger.specs.State.{numbers, State, start_gen, given, Returned, refuse}
@@ -17,10 +17,10 @@ module _ (K : Kernel) where
   open K use {Setup, Setting, Candidate, Word, size_of, random, firsts}
 
   -- ---- steps 5 and 6: a call after discovery, or the one that ends it: closing, then assignment
-  unfoldable pub sampling : Setup → ℕ → State K → Call K → Gen Word → Option (Accepted K)
-  sampling S N s c g = do
-    m ← close K S s g (counted K N (numbers s.trials) c.history)
-    assign K S m.out c m.gen (slice_get m.out.candidates (place_in (numbers m.out.trials) c.number))
+  unfoldable pub sampling : Setup → ℕ → State K → Call K → Gen Word → Accepted K
+  sampling S N s c g =
+      let m = close K S s g (counted K N (numbers s.trials) c.history) in
+      assign K S m.out c m.gen (slice_get m.out.candidates (place_in (numbers m.out.trials) c.number))
 
   -- ---- step 1: discovery
 
@@ -47,12 +47,12 @@ module _ (K : Kernel) where
   begin s N cs = record { word = s.word; first = s.first; dims = s.dims; size = Some N; candidates = cs; trials = s.trials; slots = s.slots }
 
   -- by whether the call is of discovery: "A call with another trial number fixes N, fills N random candidates and is then served as below."
-  unfoldable pub discovery : Setup → Bool → State K → Call K → Option (Accepted K)
-  discovery S true s c = Some (discover s c (random c.distribution (start_gen K s)))
-  discovery S false s c = do
-    let N = size_of S s.dims
-    m ← firsts S s.dims N (start_gen K s)
-    sampling S N (begin s N m.out) c m.gen
+  unfoldable pub discovery : Setup → Bool → State K → Call K → Accepted K
+  discovery S true s c = discover s c (random c.distribution (start_gen K s))
+  discovery S false s c =
+      let N = size_of S s.dims in
+      let m = firsts S s.dims N (start_gen K s) in
+      sampling S N (begin s N m.out) c m.gen
 
   -- ---- refusals: "The first that applies, in this order, is given, and only then."
 
@@ -62,16 +62,15 @@ module _ (K : Kernel) where
   state_refusal (Some N) s c =
       refuse_if (is_none (counted K N (numbers s.trials) c.history) && (not (has (numbers s.trials) c.number) && leb (N + 64) (length s.trials))) 10
 
-  -- what the call makes if 4 to 10 don't refuse it, by N; `none` is refusal 11, "a new candidate's entry is NaN"
-  unfoldable pub accept : Setup → Option ℕ → State K → Call K → Option (Accepted K)
+  -- what the call makes if 4 to 10 don't refuse it, by N
+  unfoldable pub accept : Setup → Option ℕ → State K → Call K → Accepted K
   accept S None s c = discovery S (discovers s.first c.number) s c
   accept S (Some N) s c = sampling S N s c (start_gen K s)
 
   -- by the first of 4 to 10, and by what the call makes
-  abbrev pub outcome : State K → Option ℕ → Option (Accepted K) → Returned K (State K)
-  outcome s (Some r) o = refuse K r s
-  outcome s None None = refuse K 11 s
-  outcome s None (Some a) = record { answer = given a.setting; draws = a.draws; state = a.state }
+  abbrev pub outcome : State K → Option ℕ → Accepted K → Returned K (State K)
+  outcome s (Some r) a = refuse K r s
+  outcome s None a = record { answer = given a.setting; draws = a.draws; state = a.state }
 
   -- a sample call on a sound state
   unfoldable pub step : Setup → State K → Call K → Returned K (State K)
@@ -80,7 +79,3 @@ module _ (K : Kernel) where
   -- 0: "sample or look: the state isn't sound". The whole sample call:
   unfoldable pub sample : Setup → State K → Call K → Returned K (State K)
   sample S s c = cond (sound_test K S s) (step S s c) (refuse K 0 s)
-
-  -- whether 11 is for the call, if no other is: what the ledger is told of "what demand 2's definition builds from the same calls"
-  unfoldable pub eleven_at : Setup → State K → Call K → Bool
-  eleven_at S s c = is_none (accept S s.size s c)

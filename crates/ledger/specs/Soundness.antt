@@ -42,7 +42,7 @@ module _ (K : Kernel) where
     pub differ : Differ (numbers s.trials)
     -- "a next place is at most D"
     pub places : All (λ t. t.next ≤ length s.dims) s.trials
-    -- "choices are below their dimension's number; entries are finite"
+    -- "choices are below their dimension's number; entries are finite", and none is "over 4e300 in size" (02, W8)
     pub fit : All (Fits s.dims) s.candidates
     -- "N parents exist exactly when the count of closed generations is at least 1"
     pub none_yet : s.slots.closed ≡ 0 → s.slots.parents ≡ []

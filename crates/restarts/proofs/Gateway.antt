@@ -24,7 +24,7 @@ use Rattle.ledger.proofs.Sound.{step-sound, fresh-sound}
 use Rattle.evolution.specs.declared.Setup.{Setup}
 use Rattle.kernel.specs.De.{de}
 use Rattle.kernel.proofs.Kernel.{de-laws}
-use Rattle.state.specs.Setup.{setup_verdict}
+use Rattle.kernel.specs.Setup.{setup_verdict}
 use Rattle.state.specs.View.{laid, view}
 use Rattle.state.specs.declared.State.{State}
 use Rattle.state.proofs.Flags.{and-true}
@@ -100,7 +100,7 @@ module _ (S : Setup) (ok : is_ok (setup_verdict S) ≡ true) (typed : TypedSetup
   reached-call s c k t =
       record {
         plain = (step de S k.plain c).state;
-        sound = step-sound de de-laws S k.plain c k.sound;
+        sound = step-sound de de-laws S ok k.plain c k.sound;
         fine = step-fine de Word Doubles TypedDim Double Word S (de-makes S typed.seed) k.plain c k.sound.dims_few k.fine (fine-call c t);
         is = ap (λ (x : State). stepped x c) k.is ∙ ap (λ (r : Returned de State). r.state) (sampled k.plain c k.sound);
       }

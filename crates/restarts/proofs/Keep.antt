@@ -10,11 +10,11 @@ use lib.Dec.{leb, ltb, eqb}
 use lib.Ieee.{Float, le}
 use lib.ListN.{length, take}
 use Rattle.ledger.specs.Words.{All, or_else}
-use Rattle.ledger.specs.Kernel.{Gen, Made, Parent, Kernel}
+use Rattle.ledger.specs.Kernel.{Gen, Parent, Kernel}
 use Rattle.ledger.specs.Call.{Call, call_refusal}
 use Rattle.ledger.specs.State.{Trial, numbers, State, fresh, start_gen}
-use Rattle.ledger.specs.Closing.{scan, results_of, counted, store, select, new_parents, settle, reopen, close}
-use Rattle.ledger.specs.Assignment.{next_in, move, Accepted, setting_of, serve, assign}
+use Rattle.ledger.specs.Closing.{scan, results_of, counted, store, select, new_parents, settle, close}
+use Rattle.ledger.specs.Assignment.{next_in, move, setting_of, serve, assign}
 use Rattle.ledger.specs.Sample.{discovers, sampling, begin, discovery, state_refusal, accept, outcome, step}
 use Rattle.ledger.proofs.Lists.{none≢some, some_inj, bind-some, all_nil, all_snoc}
 
@@ -49,10 +49,10 @@ module _ (K : Kernel) (W : K.Word → Type 0) (P : K.Candidate → Type 0) (Q : 
   pub record Makes (S : Setup) : Type 0 where
     pub of_seed : W (seed S)
     pub of_random : (d : Distribution) (g : Gen Word) → W g.word → W (random d g).gen.word
-    pub of_firsts : (ds : List Distribution) (n : ℕ) (g : Gen Word) (m : Made Word (List Candidate)) → length ds ≤ 16 → All Q ds → W g.word → firsts S ds n g ≡ Some m → All P m.out × W m.gen.word
-    pub of_extra : (ds : List Distribution) (g : Gen Word) (m : Made Word Candidate) → length ds ≤ 16 → All Q ds → W g.word → extra S ds g ≡ Some m → P m.out × W m.gen.word
-    pub of_nexts : (ds : List Distribution) (ps : List (Parent Candidate)) (b : ℕ) (g : Gen Word) (m : Made Word (List Candidate)) → length ds ≤ 16 → All Q ds → All FineParent ps → W g.word
-        → nexts S ds ps b g ≡ Some m → All P m.out × W m.gen.word
+    pub of_firsts : (ds : List Distribution) (n : ℕ) (g : Gen Word) → length ds ≤ 16 → All Q ds → W g.word → let m = firsts S ds n g in All P m.out × W m.gen.word
+    pub of_extra : (ds : List Distribution) (g : Gen Word) → length ds ≤ 16 → All Q ds → W g.word → let m = extra S ds g in P m.out × W m.gen.word
+    pub of_nexts : (ds : List Distribution) (ps : List (Parent Candidate)) (b : ℕ) (g : Gen Word) → length ds ≤ 16 → All Q ds → All FineParent ps → W g.word
+        → let m = nexts S ds ps b g in All P m.out × W m.gen.word
 
   -- ---- the counted results
 
@@ -116,19 +116,15 @@ module _ (K : Kernel) (W : K.Word → Type 0) (P : K.Candidate → Type 0) (Q : 
   -- ---- a call
 
   module _ (S : Setup) (M : Makes S) where
-    close-fine : (s : State K) (g : Gen Word) (o : Option (List Float)) (m : Made Word (State K)) → length s.dims ≤ 16 → Fine s → W g.word → ((row : List Float) → o ≡ Some row → All F row)
-        → close K S s g o ≡ Some m → Fine m.out × W m.gen.word × (length m.out.dims ≤ 16)
+    close-fine : (s : State K) (g : Gen Word) (o : Option (List Float)) → length s.dims ≤ 16 → Fine s → W g.word → ((row : List Float) → o ≡ Some row → All F row)
+        → let m = close K S s g o in Fine m.out × W m.gen.word × (length m.out.dims ≤ 16)
     unfolding close
-    close-fine s g None m few f w h e =
-        let q = some_inj e in (subst (λ (x : Made Word (State K)). Fine x.out) q f, subst (λ (x : Made Word (State K)). W x.gen.word) q w, subst (λ (x : Made Word (State K)). length x.out.dims ≤ 16) q few)
-    close-fine s g (Some row) m few f w h e =
+    close-fine s g None few f w h = (f, w, few)
+    close-fine s g (Some row) few f w h =
         let o = settle K s.slots s.candidates row in
         let ps : All FineParent o.parents = parents-fine s.slots.closed s.slots.parents s.candidates row f.parents f.candidates (h row refl) in
-        let p = bind-some (nexts S s.dims o.parents o.best g) _ m e in
-        let k = M.of_nexts s.dims o.parents o.best g p.0 few f.dims ps w p.1 in
-        let q = some_inj p.2 in
-        let f' : Fine (reopen K s o p.0.out) = record { word = f.word; first = f.first; dims = f.dims; candidates = k.0; trials = all_nil (λ (t : Trial). N t.number); parents = ps } in
-        (subst (λ (x : Made Word (State K)). Fine x.out) q f', subst (λ (x : Made Word (State K)). W x.gen.word) q k.1, subst (λ (x : Made Word (State K)). length x.out.dims ≤ 16) q few)
+        let k = M.of_nexts s.dims o.parents o.best g few f.dims ps w in
+        (record { word = f.word; first = f.first; dims = f.dims; candidates = k.0; trials = all_nil (λ (t : Trial). N t.number); parents = ps }, k.1, few)
 
     serve-fine : (s : State K) (c : Call K) (cs : List Candidate) (y : Candidate) (g : Gen Word) → Fine s → FineCall c → All P cs → W g.word → Fine (serve K s c cs y g).state
     serve-fine s c cs y g f d h w =
@@ -145,52 +141,50 @@ module _ (K : Kernel) (W : K.Word → Type 0) (P : K.Candidate → Type 0) (Q : 
         go true = w
         go false = M.of_random c.distribution g w
 
-    assign-fine : (s : State K) (c : Call K) (g : Gen Word) (o : Option Candidate) (a : Accepted K) → length s.dims ≤ 16 → Fine s → FineCall c → W g.word → assign K S s c g o ≡ Some a → Fine a.state
+    assign-fine : (s : State K) (c : Call K) (g : Gen Word) (o : Option Candidate) → length s.dims ≤ 16 → Fine s → FineCall c → W g.word → Fine (assign K S s c g o).state
     unfolding assign
-    assign-fine s c g (Some y) a few f d w e = subst (λ (x : Accepted K). Fine x.state) (some_inj e) (serve-fine s c s.candidates y g f d f.candidates w)
-    assign-fine s c g None a few f d w e =
-        let p = bind-some (extra S s.dims g) _ a e in
-        let k = M.of_extra s.dims g p.0 few f.dims w p.1 in
-        subst (λ (x : Accepted K). Fine x.state) (some_inj p.2) (serve-fine s c (s.candidates ++ (p.0.out ∷ [])) p.0.out p.0.gen f d (all_snoc P s.candidates p.0.out f.candidates k.0) k.1)
+    assign-fine s c g (Some y) few f d w = serve-fine s c s.candidates y g f d f.candidates w
+    assign-fine s c g None few f d w =
+        let m = extra S s.dims g in
+        let k = M.of_extra s.dims g few f.dims w in
+        serve-fine s c (s.candidates ++ (m.out ∷ [])) m.out m.gen f d (all_snoc P s.candidates m.out f.candidates k.0) k.1
 
-    sampling-fine : (n : ℕ) (s : State K) (c : Call K) (g : Gen Word) (a : Accepted K) → length s.dims ≤ 16 → Fine s → FineCall c → W g.word → sampling K S n s c g ≡ Some a → Fine a.state
+    sampling-fine : (n : ℕ) (s : State K) (c : Call K) (g : Gen Word) → length s.dims ≤ 16 → Fine s → FineCall c → W g.word → Fine (sampling K S n s c g).state
     unfolding sampling
-    sampling-fine n s c g a few f d w e =
+    sampling-fine n s c g few f d w =
         let o = counted K n (numbers s.trials) c.history in
-        let p = bind-some (close K S s g o) _ a e in
-        let k = close-fine s g o p.0 few f w (λ row q. counted-fine n (numbers s.trials) c.history d.history row q) p.1 in
-        assign-fine p.0.out c p.0.gen _ a k.2 k.0 d k.1 p.2
+        let m = close K S s g o in
+        let k = close-fine s g o few f w (λ row q. counted-fine n (numbers s.trials) c.history d.history row q) in
+        assign-fine m.out c m.gen _ k.2 k.0 d k.1
 
-    accept-fine : (s : State K) (c : Call K) (z : Option ℕ) (a : Accepted K) → length s.dims ≤ 16 → Fine s → FineCall c → accept K S z s c ≡ Some a → Fine a.state
+    accept-fine : (s : State K) (c : Call K) (z : Option ℕ) → length s.dims ≤ 16 → Fine s → FineCall c → Fine (accept K S z s c).state
     unfolding accept discovery
-    accept-fine s c (Some n) a few f d e = sampling-fine n s c (start_gen K s) a few f d f.word e
-    accept-fine s c None a few f d e = go (discovers s.first c.number) e
+    accept-fine s c (Some n) few f d = sampling-fine n s c (start_gen K s) few f d f.word
+    accept-fine s c None few f d = go (discovers s.first c.number)
       where
-        go : (b : Bool) → discovery K S b s c ≡ Some a → Fine a.state
-        go true q =
-            subst (λ (x : Accepted K). Fine x.state) (some_inj q)
-            (record {
+        go : (b : Bool) → Fine (discovery K S b s c).state
+        go true =
+            record {
               word = M.of_random c.distribution (start_gen K s) f.word;
               first = λ n t. subst N (some_inj t) d.number;
               dims = all_snoc Q s.dims c.distribution f.dims d.distribution;
               candidates = f.candidates;
               trials = f.trials;
               parents = f.parents;
-            })
-        go false q =
+            }
+        go false =
             let n = size_of S s.dims in
-            let p = bind-some (firsts S s.dims n (start_gen K s)) _ a q in
-            let k = M.of_firsts s.dims n (start_gen K s) p.0 few f.dims f.word p.1 in
-            sampling-fine n (begin K s n p.0.out) c p.0.gen a few (record { word = f.word; first = f.first; dims = f.dims; candidates = k.0; trials = f.trials; parents = f.parents }) d k.1 p.2
+            let m = firsts S s.dims n (start_gen K s) in
+            let k = M.of_firsts s.dims n (start_gen K s) few f.dims f.word in
+            sampling-fine n (begin K s n m.out) c m.gen few (record { word = f.word; first = f.first; dims = f.dims; candidates = k.0; trials = f.trials; parents = f.parents }) d k.1
 
     pub step-fine : (s : State K) (c : Call K) → length s.dims ≤ 16 → Fine s → FineCall c → Fine (step K S s c).state
     unfolding step
-    step-fine s c few f d = go (or_else (call_refusal K c) (state_refusal K s.size s c)) (accept K S s.size s c) refl
+    step-fine s c few f d = go (or_else (call_refusal K c) (state_refusal K s.size s c))
       where
-        go : (r : Option ℕ) (o : Option (Accepted K)) → accept K S s.size s c ≡ o → Fine (outcome K s r o).state
-        go (Some r) o e = f
-        go None None e = f
-        go None (Some a) e = accept-fine s c s.size a few f d e
+        go : (r : Option ℕ) → Fine (outcome K s r (accept K S s.size s c)).state
+        go (Some r) = f
+        go None = accept-fine s c s.size few f d
 
     pub fresh-fine : Fine (fresh K S)
     unfolding fresh

@@ -25,7 +25,7 @@ use Rattle.ledger.specs.State as Plain
 use Rattle.ledger.specs.State.{cap}
 use Rattle.ledger.specs.Closing.{at_most, best_of}
 use Rattle.ledger.specs.Soundness.{Sound}
-use Rattle.ledger.proofs.Lists.{T→true}
+use Rattle.ledger.proofs.Lists.{T→true, all-mapped}
 use Rattle.candidates.specs.Candidate.{blank_candidate}
 use Rattle.candidates.specs.Space.{continuous_count}
 use Rattle.candidates.specs.declared.Candidate.{Candidate}
@@ -36,7 +36,7 @@ use Rattle.kernel.specs.De.{de, member_of}
 use Rattle.kernel.specs.Fits.{entries_fit, choice_limit, choices_fit, fits}
 use Rattle.kernel.proofs.Kernel.{de-laws}
 use Rattle.state.specs.Blank.{blank_dim, blank_trial}
-use Rattle.state.specs.Setup.{setup_verdict}
+use Rattle.kernel.specs.Setup.{setup_verdict}
 use Rattle.state.specs.View.{progress_of, size_number, laid}
 use Rattle.state.specs.declared.State.{State}
 use Rattle.state.specs.declared.TrialProgress.{TrialProgress}
@@ -95,11 +95,6 @@ best-few (v ∷ vs) = go (at_most v vs) (best-few vs)
     go : (b : Bool) → best_of vs ≤ length vs → cond b 0 (suc (best_of vs)) ≤ suc (length vs)
     go true h = omega arith
     go false h = omega arith
-
-pub all-mapped : {A B : Type 0} (P : B → Type 0) (f : A → B) (xs : List A) → All (λ x. P (f x)) xs → All P (map f xs)
-all-mapped P f [] h a m = absurd (Memᴰ.not-nil m)
-all-mapped P f (x ∷ xs) h a (Memᴰ.head e) = subst P (sym e) (h x (Memᴰ.head refl))
-all-mapped P f (x ∷ xs) h a (Memᴰ.tail m) = all-mapped P f xs (λ b t. h b (Memᴰ.tail t)) a m
 
 -- ---- the state
 

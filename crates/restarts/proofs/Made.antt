@@ -1,8 +1,7 @@
 -- The sampler's candidates are of doubles and its generator's words of 64 bits: every entry is a sum of doubles, a bound or a parent's entry.
-use Rattle.std.specs.Prelude.{Some}
 use Prim.Native.Nat.{ℕ, zero, suc, ◌+◌, ◌≤◌}
 use native.Mathlib.Omega.{arith}
-use mathlib.Core.Path.{◌≡◌, refl, subst}
+use mathlib.Core.Path.{refl}
 use mathlib.Core.Bool.{Bool, true, false, cond}
 use mathlib.Core.List.Memᴰ
 use mathlib.Core.List.{List, [], ◌∷◌, map}
@@ -27,9 +26,8 @@ use Rattle.common.specs.Random.{random_setting}
 use Rattle.common.specs.declared.Bounds.{Bounds}
 use Rattle.ledger.specs.Words.{All}
 use Rattle.ledger.specs.Kernel as L
-use Rattle.ledger.proofs.Lists.{none≢some, some_inj, all_nil}
+use Rattle.ledger.proofs.Lists.{all_nil}
 use Rattle.candidates.specs.Candidate.{packed}
-use Rattle.candidates.specs.Nan.{any_nan, any_bad}
 use Rattle.candidates.specs.Random.{random_entry, nan_bounds, entry_at, random_entries, random_choice, choice_at, random_choices, random_candidate, candidate_at, random_candidates}
 use Rattle.candidates.specs.Space.{continuous_dims, continuous_bounds, space_of}
 use Rattle.candidates.specs.declared.Candidate.{Candidate}
@@ -44,7 +42,7 @@ use Rattle.evolution.specs.declared.DEStrategy.{DEStrategy}
 use Rattle.evolution.specs.declared.DEStrategy.TheVariants.{Rand1, Best1, CurrentToBest1}
 use Rattle.evolution.specs.declared.Member.{Member}
 use Rattle.evolution.specs.declared.Setup.{Setup}
-use Rattle.kernel.specs.De.{de, code_gen, made, member_of, unless_nan, firsts_of, extra_of, nexts_of}
+use Rattle.kernel.specs.De.{de, code_gen, member_of, firsts_of, extra_of, nexts_of}
 use Rattle.kernel.proofs.Fit.{all_cons, all_made}
 use Rattle.state.proofs.Measured.{Sized}
 use Rattle.records.proofs.Lists.{all-padded}
@@ -256,10 +254,6 @@ module _ (ds : List DimensionInfo) (few : length ds ≤ 16) (h : All TypedDim ds
 
 -- ---- the kernel
 
-handed-over : {A : Type 0} (P : L.Made ℕ A → Type 0) (bad : Bool) (m : Made A) (r : L.Made ℕ A) → unless_nan bad m ≡ Some r → P (made m) → P r
-handed-over P true m r e h = absurd (none≢some e)
-handed-over P false m r e h = subst P (some_inj e) h
-
 abbrev FineMember : L.Parent Candidate → Type 0
 FineMember p = Doubles p.candidate × Double p.value
 
@@ -273,11 +267,7 @@ de-makes S w =
     record {
       of_seed = w;
       of_random = λ d g v. after-draw (code_gen g);
-      of_firsts = λ ds n g m few h v e. let r = random_candidates (space_of ds) n (code_gen g) in
-          handed-over (λ (x : L.Made ℕ (List Candidate)). All Doubles x.out × Word x.gen.word) (any_bad r.out) r m e (firsts-doubles ds few h n (code_gen g), candidates-word (space_of ds) n (code_gen g) v);
-      of_extra = λ ds g m few h v e. let r = random_candidate (space_of ds) (code_gen g) in
-          handed-over (λ (x : L.Made ℕ Candidate). Doubles x.out × Word x.gen.word) (any_nan r.out.x) r m e (random-doubles ds few h (code_gen g), candidate-word (space_of ds) (code_gen g) v);
-      of_nexts = λ ds ps b g m few h k v e. let r = next_candidates S (map member_of ps) b (space_of ds) (code_gen g) in
-          handed-over (λ (x : L.Made ℕ (List Candidate)). All Doubles x.out × Word x.gen.word) (any_bad r.out) r m e
-          (nexts-doubles ds few h S (map member_of ps) b (code_gen g) (members ps k), nexts-word S (map member_of ps) b (space_of ds) (code_gen g) v);
+      of_firsts = λ ds n g few h v. (firsts-doubles ds few h n (code_gen g), candidates-word (space_of ds) n (code_gen g) v);
+      of_extra = λ ds g few h v. (random-doubles ds few h (code_gen g), candidate-word (space_of ds) (code_gen g) v);
+      of_nexts = λ ds ps b g few h k v. (nexts-doubles ds few h S (map member_of ps) b (code_gen g) (members ps k), nexts-word S (map member_of ps) b (space_of ds) (code_gen g) v);
     }

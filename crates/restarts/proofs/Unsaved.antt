@@ -12,7 +12,7 @@ use Rattle.ledger.specs.Words.{All}
 use Rattle.evolution.specs.declared.BoundsRule.TheVariants.{Midpoint}
 use Rattle.evolution.specs.declared.Setup.{Setup}
 use Rattle.kernel.specs.De.{de}
-use Rattle.state.specs.Setup.{setup_verdict}
+use Rattle.kernel.specs.Setup.{setup_verdict}
 use Rattle.state.specs.View.{laid, view}
 use Rattle.state.specs.declared.State.{State}
 use Rattle.de.specs.Build.{fresh_state}

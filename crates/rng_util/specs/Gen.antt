@@ -1,5 +1,5 @@
 -- The generator as a call threads it: its word, and how many draws the call has made so far. "One output is one draw."
-use Rattle.std.specs.Prelude.{ℕ, ◌+◌, Result, Ok, Err}
+use Rattle.std.specs.Prelude.{ℕ, ◌+◌}
 use Rattle.rng_util.specs.SplitMix.{drawn}
 use Rattle.rng_util.specs.declared.Gen.{Gen}
 
@@ -14,11 +14,6 @@ pub record Made (A : Type 0) : Type 0 where
 
 abbrev pub made : {A : Type 0} → A → Gen → Made A
 made a g = record { out = a; after = g }
-
--- what was made by a call that hands its generator on, or its refusal
-abbrev pub handed_on : {A E : Type 0} → Result Gen E → A → Result (Made A) E
-handed_on (Ok g) a = Ok (made a g)
-handed_on (Err e) a = Err e
 
 -- one draw: its output
 unfoldable pub draw_of : Gen → Made ℕ

@@ -12,7 +12,7 @@ use Rattle.ledger.specs.State as Plain
 use Rattle.ledger.specs.Soundness.{Sound}
 use Rattle.ledger.proofs.Sound.{fresh-sound}
 use Rattle.kernel.specs.De.{de}
-use Rattle.state.specs.Setup.{setup_verdict}
+use Rattle.kernel.specs.Setup.{setup_verdict}
 use Rattle.state.specs.View.{size_in, view, laid}
 use Rattle.state.specs.Sound.{sound_state}
 use Rattle.state.specs.declared.State.{State}

@@ -10,7 +10,6 @@ use lib.Dec.{eqb, ltb}
 use lib.Ieee.{Float}
 use lib.ListN.{length, get_or, set, take, replicate, length-map}
 use Rattle.rng_util.specs.Many.{pad_to}
-use Rattle.distribution.specs.Validate.{is_finite}
 use Rattle.distribution.specs.declared.DimensionInfo.{DimensionInfo}
 use Rattle.distribution.specs.Dims.{choices_of, no_dim}
 use Rattle.candidates.specs.Space.{continuous_dims, continuous_count, FewChoices}
@@ -18,17 +17,17 @@ use Rattle.candidates.specs.declared.Candidate.{Candidate}
 use Rattle.candidates.proofs.Lists.{pad-map_more}
 use Rattle.candidates.proofs.Passed.{few-continuous}
 use Rattle.ledger.specs.Words.{all}
-use Rattle.kernel.specs.Fits.{is_zero, entries_fit, choice_limit, choices_fit, fits}
+use Rattle.kernel.specs.Fits.{is_zero, entry_fits, entries_fit, choice_limit, choices_fit, fits}
 use Rattle.state.specs.Blank.{is_blank_candidate}
 use Rattle.state.specs.Places.{places_fit, choices_below, limits_of}
 use Rattle.state.specs.declared.places.Limits.{Limits}
 use Rattle.state.proofs.Measured.{Sized}
 
-entries-are : (n : ℕ) (xs : List Float) → n ≤ length xs → places_fit is_finite is_zero n xs ≡ entries_fit n xs
+entries-are : (n : ℕ) (xs : List Float) → n ≤ length xs → places_fit entry_fits is_zero n xs ≡ entries_fit n xs
 unfolding places_fit entries_fit all
 entries-are zero xs h = refl
 entries-are (suc n) [] h = absurd (not-suc-le-zero h)
-entries-are (suc n) (x ∷ xs) h = and_assoc (is_finite x) _ _ ∙ ap (λ (b : Bool). is_finite x && b) (entries-are n xs (le_of_suc-le-suc h))
+entries-are (suc n) (x ∷ xs) h = and_assoc (entry_fits x) _ _ ∙ ap (λ (b : Bool). entry_fits x && b) (entries-are n xs (le_of_suc-le-suc h))
 
 -- below 1 is 0
 below_one : (c : ℕ) → ltb c 1 ≡ eqb 0 c
@@ -46,11 +45,11 @@ choices-are [] cs r h = let e : r ≡ length cs = omega (arith, h) in ap (λ (k 
 choices-are (d ∷ ds) [] r h = absurd (omega (arith, h))
 choices-are (d ∷ ds) (c ∷ cs) r h = ap (λ (b : Bool). ltb c (choice_limit d) && b) (choices-are ds cs r (omega (arith, h)))
 
-pub fits_by : (c : Candidate) (l : Limits) {a b : Bool} → Sized c → a ≡ places_fit is_finite is_zero l.n c.x → b ≡ choices_below c.choices l.choices → (ds : List DimensionInfo) → length ds ≤ 16 → l ≡ limits_of ds → (a && b) ≡ fits ds c
+pub fits_by : (c : Candidate) (l : Limits) {a b : Bool} → Sized c → a ≡ places_fit entry_fits is_zero l.n c.x → b ≡ choices_below c.choices l.choices → (ds : List DimensionInfo) → length ds ≤ 16 → l ≡ limits_of ds → (a && b) ≡ fits ds c
 unfolding fits
 fits_by c l z p q ds few e =
     ap₂ (λ (x y : Bool). x && y)
-    (p ∙ ap (λ (k : Limits). places_fit is_finite is_zero k.n c.x) e ∙ entries-are (continuous_count ds) c.x (omega (arith, few-continuous ds, z.x)))
+    (p ∙ ap (λ (k : Limits). places_fit entry_fits is_zero k.n c.x) e ∙ entries-are (continuous_count ds) c.x (omega (arith, few-continuous ds, z.x)))
     (q ∙ ap (λ (k : Limits). choices_below c.choices k.choices) e
     ∙ choices-are ds c.choices (16 - length (map choice_limit ds)) (omega (arith, length-map ds choice_limit, z.choices)))
 

@@ -1,22 +1,27 @@
--- Tests of one double: which one is a number, which is plus zero, and that the code's tests say so.
+-- Tests of one double: which one is a number, which is plus zero, that the code's tests say so, and the code's limit as the definition's.
 use Prim.Native.Nat.{zero, suc}
 use mathlib.Core.Path.{◌≡◌, refl, sym, ap, subst, ◌∙◌}
 use mathlib.Core.Bool.{Bool, true, false, not, true≢false}
 use borrow.Author.Tests.{eqb-true}
 use lib.Dec.{T, eqb}
 use lib.IntN.{pos, negsuc}
-use lib.Ieee.{Float, nan, inf, fin, fits, is_nan, of_bits, of_fields, to_bits, binary64, odd}
+use lib.Ieee.{Float, nan, inf, fin, binary64, fits, is_nan, round, size, span, climb, units, odd, of_bits, of_fields, to_bits}
 use lib.Ieee.Bits.{of_bits-to_bits}
 use lib.Count.{count_trailing_zeros}
 use Rattle.common.specs.Bounds.{zero_f}
 use Rattle.ledger.specs.Soundness.{is_number}
-use Rattle.kernel.specs.Fits.{is_zero}
+use Rattle.kernel.specs.Fits.{is_zero, entry_limit}
 
 pub number_is : (v : Float) → not (is_nan v) ≡ is_number v
 unfolding is_nan
 number_is nan = refl
 number_is (inf s) = refl
 number_is (fin s m e) = refl
+
+-- 4e300, as the machine holds it
+pub limit_held : of_bits binary64 9103996120383649180 ≡ entry_limit
+unfolding of_bits of_fields entry_limit round size span climb units odd count_trailing_zeros
+limit_held = refl
 
 -- ---- plus zero, and no other double
 

@@ -27,7 +27,7 @@ use Rattle.ledger.proofs.SoundTest.{sound-test}
 use Rattle.kernel.specs.De.{de, member_of}
 use Rattle.kernel.specs.Fits.{entries_fit, choices_fit, fits}
 use Rattle.state.specs.Blank.{blank_dim, blank_trial, is_blank_dim, is_blank_trial, is_blank_candidate, is_blank_member}
-use Rattle.state.specs.Setup.{setup_verdict}
+use Rattle.kernel.specs.Setup.{setup_verdict}
 use Rattle.state.specs.View.{trial_of, progress_of, parent_of, size_in, has_size, size_number, candidate_count, parent_count, view, laid}
 use Rattle.state.specs.Sound.{clean_test, sound_state}
 use Rattle.state.proofs.Flags.{and-true}

@@ -3,7 +3,8 @@ use mathlib.Core.Path.{◌≡◌, refl}
 use Rattle.evolution.specs.declared.BoundsRule.{BoundsRule}
 use Rattle.evolution.specs.BoundsRule.{ruled}
 use Rattle.evolution.specs.declared.Setup.{Setup}
-use Rattle.state.specs.Setup.{setup_verdict, state_ruled}
+use Rattle.kernel.specs.Setup.{setup_verdict}
+use Rattle.state.specs.Ruled.{state_ruled}
 use Rattle.ledger.specs.Soundness.{sound_test}
 use Rattle.state.specs.Sound.{clean_test, sound_state}
 use Rattle.state.specs.View.{view}

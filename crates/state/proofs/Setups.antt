@@ -9,7 +9,7 @@ use Rattle.distribution.specs.Validate.{refusal_of}
 use Rattle.distribution.proofs.Examples.{dec, next}
 use Rattle.evolution.specs.declared.BoundsRule.TheVariants.{Clamp}
 use Rattle.evolution.specs.declared.DEStrategy.TheVariants.{Best1}
-use Rattle.state.specs.Setup.{setup_verdict}
+use Rattle.kernel.specs.Setup.{setup_verdict}
 
 -- the refusal of a set-up of F, CR and a size, by its number
 abbrev judged : Float → Float → Option ℕ → Option ℕ

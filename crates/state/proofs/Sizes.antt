@@ -10,11 +10,8 @@ use Rattle.distribution.specs.declared.Refusal.{Refusal}
 use Rattle.distribution.specs.declared.Refusal.TheVariants.{MutationFactor, CrossoverRate, PopulationSize}
 use Rattle.evolution.specs.declared.Setup.{Setup}
 use Rattle.selection.specs.Size.{size_of}
-use Rattle.state.specs.Setup.{factor_fails, rate_fails, size_fails, setup_verdict}
-
-row : (a : Bool) (r : Refusal) (v : Result ⊤ Refusal) → is_ok (refused_if a r v) ≡ true → (a ≡ false) × (is_ok v ≡ true)
-row true r v e = absurd (true≢false (sym e))
-row false r v e = (refl, e)
+use Rattle.kernel.specs.Setup.{factor_fails, rate_fails, size_fails, setup_verdict}
+use Rattle.kernel.proofs.Kernel.{row}
 
 -- a set-up that passes 1 to 3 passes 3
 pub size-passes : (S : Setup) → is_ok (setup_verdict S) ≡ true → size_fails S.population_size ≡ false

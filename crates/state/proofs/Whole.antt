@@ -21,7 +21,7 @@ use Rattle.ledger.specs.Soundness.{is_number, discovering_tests, running_tests, 
 use Rattle.kernel.specs.De.{de}
 use Rattle.kernel.specs.Fits.{fits}
 use Rattle.state.specs.Blank.{is_blank_dim, is_blank_trial, is_blank_candidate, is_blank_member}
-use Rattle.state.specs.Setup.{setup_verdict}
+use Rattle.kernel.specs.Setup.{setup_verdict}
 use Rattle.state.specs.View.{trial_of, parent_of, size_in, dims_of, candidate_count, parent_count, view}
 use Rattle.state.specs.Places.{passes, next_fits, member_fits, discovering_counts, running_counts, counts_sound}
 use Rattle.state.specs.Sound.{clean_tests, clean_test, sound_state, Few}

@@ -1,6 +1,7 @@
 pub mod Blank
 pub mod View
-pub mod Setup
+pub mod Ruled
 pub mod Places
 pub mod Sound
+pub mod Small
 pub mod Measured

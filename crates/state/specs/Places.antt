@@ -12,7 +12,7 @@ use Rattle.selection.specs.Size.{size_of}
 use Rattle.ledger.specs.Words.{all}
 use Rattle.ledger.specs.Soundness.{is_number}
 use Rattle.kernel.specs.Fits.{choice_limit, fits}
-use Rattle.state.specs.Setup.{setup_verdict}
+use Rattle.kernel.specs.Setup.{setup_verdict}
 use Rattle.state.specs.declared.State.{State}
 use Rattle.state.specs.declared.TrialProgress.{TrialProgress}
 use Rattle.state.specs.declared.places.Limits.{Limits}
@@ -35,7 +35,7 @@ passes d = is_none (judged d.distribution)
 abbrev pub next_fits : ℕ → TrialProgress → Bool
 next_fits D t = leb t.next_dim D
 
--- "choices are below their dimension's number; entries are finite, values not NaN"
+-- "choices are below their dimension's number; entries are finite, values not NaN", and no entry is "over 4e300 in size" (02, W8)
 abbrev pub member_fits : List DimensionInfo → Member → Bool
 member_fits ds m = fits ds m.candidate && is_number m.value
 

@@ -5,7 +5,7 @@ use Rattle.ledger.specs.Words.{all, every}
 use Rattle.ledger.specs.Soundness.{sound_test}
 use Rattle.kernel.specs.De.{de}
 use Rattle.state.specs.Blank.{is_blank_dim, is_blank_trial, is_blank_candidate, is_blank_member}
-use Rattle.state.specs.Setup.{setup_verdict}
+use Rattle.kernel.specs.Setup.{setup_verdict}
 use Rattle.state.specs.View.{view, candidate_count, parent_count}
 use Rattle.state.specs.declared.State.{State}
 

@@ -1,19 +1,20 @@
 // Place tests: what is in use is right, and what is not is as in a fresh state.
 ghost use Rattle.std.specs.Prelude.{Bool, List, ◌≡◌, ◌&&◌, map, ◌≤◌, length};
 ghost use Rattle.rng_util.specs.Many.{pad_to};
-ghost use Rattle.distribution.specs.Validate.{is_finite};
 ghost use Rattle.distribution.specs.Dims.{choices_of};
 ghost use Rattle.candidates.specs.Space.{FewChoices};
 ghost use Rattle.ledger.specs.Words.{all};
-ghost use Rattle.kernel.specs.Fits.{is_zero, choice_limit, fits};
+ghost use Rattle.kernel.specs.Fits.{is_zero, entry_fits, choice_limit, fits};
 ghost use Rattle.state.specs.Blank.{is_blank_dim, is_blank_trial, is_blank_candidate, is_blank_member};
 ghost use Rattle.state.specs.Places.{Answers, places_fit, passes, limits_of, choices_below, next_fits, member_fits};
 
 use super::TrialProgress;
 use candidates::{Candidate, continuous_count};
-use distribution::validate::is_finite;
 use distribution::{DimensionInfo, Distribution};
 use evolution::Member;
+
+// The largest size of an entry.
+const ENTRY_LIMIT: f64 = 4e300;
 
 // What the tests of candidates read of the dimensions, made once: how many are continuous, and what each choice stays
 // below. n counts entries, and not the choices beside it: each of a candidate's 16 has its limit.
@@ -58,11 +59,19 @@ fn is_zero(v: f64) -> bool
     std::num::f64_to_bits_with_nan(v) == 0
 }
 
-// n finite entries, and unused ones after them.
-fn entries_fit(x: &[f64], n: usize) -> bool
-    ensures { result ≡ places_fit is_finite is_zero n x.now }
+// Finite, and not over 4e300 in size: NaN fails both tests.
+#[tactic(auto, using(crate::proofs::Floats::limit_held), unfolding(kernel::specs::Fits::entry_fits))]
+fn entry_fits(v: f64) -> bool
+    ensures { result ≡ entry_fits v }
 {
-    places_fit(x, n, |v| is_finite(*v), |v| is_zero(*v))
+    (-ENTRY_LIMIT <= v) & (v <= ENTRY_LIMIT)
+}
+
+// n entries that fit, and unused ones after them.
+fn entries_fit(x: &[f64], n: usize) -> bool
+    ensures { result ≡ places_fit entry_fits is_zero n x.now }
+{
+    places_fit(x, n, |v| entry_fits(*v), |v| is_zero(*v))
 }
 
 // Without an early way out, as `all_pass`, which goes through one list and not through two.

@@ -1,6 +1,6 @@
 // Refusals 1 to 3: which set-ups the sampler takes.
 ghost use Rattle.std.specs.Prelude.{◌≡◌};
-ghost use Rattle.state.specs.Setup.{outside, size_fails, setup_verdict};
+ghost use Rattle.kernel.specs.Setup.{outside, size_fails, setup_verdict};
 
 use distribution::Refusal;
 use evolution::Setup;

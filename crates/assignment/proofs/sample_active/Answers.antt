@@ -4,4 +4,4 @@ use Rattle.assignment.proofs.Laws.{assigned-few}
 use Rattle.assignment.proofs.sample_active.Goals as goal
 
 pub setting_for-setting-requires : goal.setting_for-setting-requires
-setting_for-setting-requires c = (search rules, search rules, omega (arith, assigned-few c.args.state.now _ _ _ _ c.requires.few_dims c.in_ok-candidate.ensures))
+setting_for-setting-requires c = (search rules, search rules, omega (arith, assigned-few c.args.state.now _ _ _ _ c.requires.few_dims c.assign_candidate-candidate.ensures))

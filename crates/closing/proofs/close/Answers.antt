@@ -1,15 +1,15 @@
--- `close` meets its contract: the results of its calls, put together (`closed-so`), or refusal 11 (`closed-not`). Assumes nothing.
+-- `close` meets its contract: the results of its calls, put together (`closed-so`). Assumes nothing.
 use Rattle.std.proofs.Common.{◌≡◌, ◌≤◌, ap, ◌∙◌, arith, rules, List, length, take, length-take, length-take-le}
 use Rattle.distribution.specs.declared.DimensionInfo.{DimensionInfo}
 use Rattle.rng_util.specs.declared.Gen.{Gen}
 use Rattle.candidates.specs.Space.{space_of}
 use Rattle.candidates.proofs.Passed.{space-few, space-dims}
 use Rattle.closing.specs.Raw.{raw_close}
-use Rattle.closing.proofs.Made.{best-fits, closed-not, closed-so}
+use Rattle.closing.proofs.Made.{best-fits, closed-so}
 use Rattle.closing.proofs.close.Goals as goal
 
-pub next_candidates-candidates-requires : goal.next_candidates-candidates-requires
-next_candidates-candidates-requires c =
+pub next_candidates-state-requires : goal.next_candidates-state-requires
+next_candidates-state-requires c =
     let s = c.args.state.now in
     let p = c.requires.0 in
     let b = c.settle-best.ensures in
@@ -22,15 +22,9 @@ next_candidates-candidates-requires c =
       draws = omega (arith, ap (λ (g : Gen). g.draws) c.new-rng.ensures);
     }
 
-pub returns-then-any_bad-clause-made : goal.returns-then-any_bad-clause-made
-returns-then-any_bad-clause-made c =
-    let b = c.settle-best.ensures in
-    closed-not c.args.state.now c.args.results.now _ b.whole b.first (search rules) _ (c.search_space-space.ensures ∙ ap space_of c.dims.ensures) _ _ _ c.next_candidates-candidates.ensures _ c.any_bad.ensures c.if-any_bad.true
-    ∙ ap (raw_close c.args.state.now c.args.results.now) c.new-rng.ensures
-
-pub returns-clause-made : goal.returns-clause-made
-returns-clause-made c =
+pub returns : goal.returns
+returns c =
     let b = c.settle-best.ensures in
     rw c.blank-state.ensures
-    (closed-so c.args.state.now c.args.results.now _ b.whole b.first (search rules) _ (c.search_space-space.ensures ∙ ap space_of c.dims.ensures) _ _ _ c.next_candidates-candidates.ensures _ c.any_bad.ensures c.if-any_bad.false
+    (closed-so c.args.state.now c.args.results.now _ b.whole b.first _ (c.search_space-space.ensures ∙ ap space_of c.dims.ensures) _ _ _ c.next_candidates-state.ensures
     ∙ ap (raw_close c.args.state.now c.args.results.now) c.new-rng.ensures)

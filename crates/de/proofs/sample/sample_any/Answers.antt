@@ -21,5 +21,4 @@ accept-requires c =
 pub returns : goal.returns
 returns c =
     By.given _ _ c.requires (sym c.is_sound.ensures.sound ∙ c.if-not-is_sound.false) c.args.d c.args.trial
-    _ c.closing_results-results.ensures _ c.is_some.ensures c.place_of-place.result (cc) _ c.discovers-of_discovery.ensures _ c.count_refusal-counts.ensures _ c.refusal_of.ensures c.in_ok-refusal_of.was
-    _ _ c.accept.ensures.made c.accept.ensures.kept
+    _ c.closing_results-results.ensures _ c.is_some.ensures c.place_of-place.result (cc) _ c.discovers-of_discovery.ensures _ c.count_refusal-counts.ensures _ c.refusal_of.ensures c.in_ok-refusal_of.was _ _ c.accept.ensures

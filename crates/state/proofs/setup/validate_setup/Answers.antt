@@ -3,7 +3,7 @@ use mathlib.Core.Path.{refl}
 use lib.Ieee.{of_bits, of_fields, odd}
 use lib.Count.{count_trailing_zeros}
 use Rattle.distribution.proofs.Flags.{row-applies, row-passes}
-use Rattle.state.specs.Setup.{setup_verdict}
+use Rattle.kernel.specs.Setup.{setup_verdict}
 use Rattle.state.proofs.setup.validate_setup.Goals as goal
 
 pub returns-then-is_outside : goal.returns-then-is_outside
