@@ -8,6 +8,7 @@ pub mod Sampling
 pub mod Scanned
 pub mod Numbers
 pub mod Refused
+pub mod NoNan
 pub mod DrawCeiling
 pub mod Ceilings
 pub mod CallCeiling

@@ -5,3 +5,4 @@ pub mod Ceiling
 pub mod AnyState
 pub mod Typed
 pub mod Saved
+pub mod NoNan

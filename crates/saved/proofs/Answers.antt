@@ -25,7 +25,7 @@ other-refusal e = let z : ◌≡◌ {A = ℕ} 0 1 = cc in omega arith
 -- ---- what a file holds
 
 module _ (f : List ℕ) where
-  kept-content : misfits f ≡ false → (ks : List ℕ) → Follows f 0 ks → state_read f ≡ content_of (records_at f ks)
+  pub kept-content : misfits f ≡ false → (ks : List ℕ) → Follows f 0 ks → state_read f ≡ content_of (records_at f ks)
   unfolding state_read
   kept-content e ks c = ap (λ (b : Bool). cond b (Err BadFile) (chained (chain_of f))) e ∙ ap chained ((chain-exactly f (records_at f ks)).1 (ks, c, refl))
 

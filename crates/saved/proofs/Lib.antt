@@ -10,3 +10,4 @@ pub mod Survives
 pub mod Thirteen
 pub mod Wrote
 pub mod Place
+pub mod Large

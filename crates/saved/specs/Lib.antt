@@ -2,3 +2,4 @@ pub mod File
 pub mod Save
 pub mod Restore
 pub mod Saves
+pub mod Large

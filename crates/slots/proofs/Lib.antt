@@ -1,3 +1,4 @@
 pub mod Looking
+pub mod Large
 pub mod Holding
 pub mod Numbers

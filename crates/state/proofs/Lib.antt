@@ -10,6 +10,7 @@ pub mod Parts
 pub mod Ruled
 pub mod Setups
 pub mod Sizes
+pub mod Small
 pub mod Tidy
 pub mod Told
 pub mod Whole
