@@ -21,14 +21,16 @@
 extern "C" {
 #endif
 
-#define DE_VERSION "0.8.0"
+#define DE_VERSION "0.9.0"
 #define DE_VERSION_MAJOR 0
-#define DE_VERSION_MINOR 8
+#define DE_VERSION_MINOR 9
 #define DE_VERSION_PATCH 0
 
 /* The version of the library that is linked: DE_VERSION, where it is this header's. Where it is another, do not call,
- * and compile anew. In 0.7.0 an entry of the history has grown, which no call sees. In 0.8.0 the set-up has, and with it
- * the state: a checked function that is lent the size of the old one answers DE_SHORT_BUFFER; no other call sees it. */
+ * and compile anew. In 0.7.0 an entry of the history has grown, which no call sees. In 0.8.0 the set-up has, and with
+ * it the state: a checked function that is lent the size of the old one answers DE_SHORT_BUFFER; no other call sees it.
+ * In 0.9.0 no struct has changed: refusal 11 (DE_ENTRY_NAN) is gone, and a state with an entry over 4e300 in size is
+ * refused (DeState). */
 const char *de_version(void);
 
 enum {
@@ -85,7 +87,7 @@ enum { DE_READ = 1 }; /* the history's first `count` places are the entries of t
 
 /* Why a call was refused. */
 enum {
-    DE_STATE_NOT_SOUND = 0, /* no state that a sampler can have: memory that was not set up, or was changed */
+    DE_STATE_NOT_SOUND = 0, /* no state that a sampler can have: memory that was not set up, or was changed (DeState) */
     DE_MUTATION_FACTOR = 1, /* F is not in 0 to 2 */
     DE_CROSSOVER_RATE = 2,  /* CR is not in 0 to 1 */
     DE_POPULATION_SIZE = 3, /* over DE_MAX_POPULATION */
@@ -96,11 +98,12 @@ enum {
     DE_HISTORY_NAN = 8,     /* the value of a complete entry of the history is NaN */
     DE_DIMENSIONS = 9,      /* a 17th dimension */
     DE_EXTRA_TRIALS = 10,   /* a 65th trial beyond the population in one generation */
-    DE_ENTRY_NAN = 11,      /* a new candidate would have an entry that is NaN */
+    /* 11 is unused since 0.9.0, and no call gives it. It stood for an entry of a new candidate that is NaN. */
     /* Of saved files alone; docs/SAVED.md has both checks word by word. */
     DE_BAD_FILE = 12,    /* empty, no multiple of 32 bytes, a broken chain; in saving: the lent memory is too short */
-    DE_BAD_CONTENT = 13, /* what the file holds, or the state that is to be saved, is none that a sampler can have; in
-                          * saving also: the state's bounds rule is DE_MIDPOINT, for which a file has no place yet */
+    DE_BAD_CONTENT = 13, /* what the file holds, or the state that is to be saved, is none that a sampler can have
+                          * (DeState); in saving also: the state's bounds rule is DE_MIDPOINT, for which a file has no
+                          * place yet */
     /* Of metrics exports alone. */
     DE_MALFORMED_LINE = 14, /* a line is malformed; `line` is the number of the first such line, from 1 */
     DE_SHORT_HISTORY = 15   /* every line is well, and the lent history has fewer places than there are entries */
@@ -160,9 +163,10 @@ typedef struct DeTrialProgress {
 } DeTrialProgress;
 
 /* The sampler's state, whole: it may be copied, kept and put back as bytes. To be read, not written: a state that was
- * changed is used if it is one that a sampler can have, and refused by DE_STATE_NOT_SOUND otherwise. A field that a
- * kind or flag has no use for may hold any number (`named` DE_NO with `first` 77 is sound); the next setting zeroes it.
- */
+ * changed is used if it is one that a sampler can have, and refused by DE_STATE_NOT_SOUND otherwise. No sampler can
+ * have an entry (a place of `x`, in a candidate or in a parent) that is NaN, infinite or over 4e300 in size: a state
+ * with one is refused so, and a saved file with one by DE_BAD_CONTENT. A field that a kind or flag has no use for may
+ * hold any number (`named` DE_NO with `first` 77 is sound); the next setting zeroes it. */
 typedef struct DeState {
     DeSetup setup;
     uint64_t named; /* DE_YES: `first` is the first trial's number */

@@ -188,20 +188,24 @@ static void trial_words(void) {
     word(4, 4, 1, NO);
 }
 
-/* The first row of parents or of candidates. */
-static void row_words(uint64_t kind) {
+/* The row of parents or of candidates whose first word is word `at`: a Float's entry, an Int's, a choice, a Float's and
+ * an Int's. */
+static void row_words(uint64_t kind, size_t at) {
     static const size_t entries[4] = {0, 1, 3, 4};
+    static const double fit[] = {-0.0, 4e300, -4e300};
+    static const double unfit[] = {4.000000000000001e300, -4.000000000000001e300, 1e308, INFINITY, -INFINITY, NAN};
     for (size_t i = 0; i < 4; i++) {
-        word(kind, entries[i], real(-0.0), YES);
-        word(kind, entries[i], real(1.7976931348623157e308), YES);
-        word(kind, entries[i], real(INFINITY), NO);
-        word(kind, entries[i], real(-INFINITY), NO);
-        word(kind, entries[i], real(NAN), NO);
+        for (size_t k = 0; k < sizeof fit / sizeof *fit; k++) {
+            word(kind, at + entries[i], real(fit[k]), YES);
+        }
+        for (size_t k = 0; k < sizeof unfit / sizeof *unfit; k++) {
+            word(kind, at + entries[i], real(unfit[k]), NO);
+        }
     }
-    word(kind, 2, 3, YES);
-    word(kind, 2, 4, NO);
-    word(kind, 2, 65536, NO);
-    word(kind, 2, UINT64_MAX, NO);
+    word(kind, at + 2, 3, YES);
+    word(kind, at + 2, 4, NO);
+    word(kind, at + 2, 65536, NO);
+    word(kind, at + 2, UINT64_MAX, NO);
 }
 
 /* The values of the four parents; the best slot's place is word 8 of kind 2. */
@@ -235,6 +239,10 @@ static void extra_words(void) {
         walk_on(&walk);
     }
     base = keep(&walk.state);
+    take(&base);
+    /* The last extra's entry. */
+    word(6, 67, real(4e300), YES);
+    word(6, 67, real(-4.000000000000001e300), NO);
     for (uint64_t n = 4; n <= 5; n++) {
         take(&base);
         put_word(1, 4, n);
@@ -261,8 +269,11 @@ static void by_hand(void) {
     whole_words();
     choice_words();
     trial_words();
-    row_words(5);
-    row_words(6);
+    /* The first slot and the last. */
+    row_words(5, 0);
+    row_words(5, 3 * 6);
+    row_words(6, 0);
+    row_words(6, 3 * 5);
     values();
     free(base.bytes);
     extra_words();

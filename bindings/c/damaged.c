@@ -28,14 +28,15 @@ static uint64_t nasty(void) {
                                       UINT64_C(0x7fffffffffffffff), UINT64_C(0x8020000000000000),
                                       UINT64_C(0x8020000000000001), UINT64_C(0x7fe0000000000000),
                                       UINT64_C(0x7fdfffffffffffff), UINT64_C(0x0020000000000001)};
-    /* Doubles: infinities, NaN, the largest, 1e300, 2, 1 and 0.5 with neighbours, the largest subnormal. */
+    /* Doubles: infinities, NaN, the largest, 4e300, 1e300, 2, 1 and 0.5 with neighbours, the largest subnormal. */
     static const uint64_t doubles[] = {
         UINT64_C(0x7ff0000000000000), UINT64_C(0xfff0000000000000), UINT64_C(0x7ff8000000000000),
         UINT64_C(0x7ff0000000000001), UINT64_C(0xfff8000000000001), UINT64_C(0x7fefffffffffffff),
-        UINT64_C(0xffefffffffffffff), UINT64_C(0x7e37e43c8800759c), UINT64_C(0x7e37e43c8800759d),
-        UINT64_C(0xfe37e43c8800759c), UINT64_C(0xfe37e43c8800759d), UINT64_C(0x4000000000000000),
-        UINT64_C(0x4000000000000001), UINT64_C(0x3ff0000000000000), UINT64_C(0x3ff0000000000001),
-        UINT64_C(0x3fe0000000000000), UINT64_C(0x000fffffffffffff)};
+        UINT64_C(0xffefffffffffffff), UINT64_C(0x7e57e43c8800759c), UINT64_C(0x7e57e43c8800759d),
+        UINT64_C(0xfe57e43c8800759c), UINT64_C(0xfe57e43c8800759d), UINT64_C(0x7e37e43c8800759c),
+        UINT64_C(0x7e37e43c8800759d), UINT64_C(0xfe37e43c8800759c), UINT64_C(0xfe37e43c8800759d),
+        UINT64_C(0x4000000000000000), UINT64_C(0x4000000000000001), UINT64_C(0x3ff0000000000000),
+        UINT64_C(0x3ff0000000000001), UINT64_C(0x3fe0000000000000), UINT64_C(0x000fffffffffffff)};
     switch (below(3)) {
     case 0:
         return counts[below(sizeof counts / sizeof *counts)];

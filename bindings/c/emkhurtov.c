@@ -30,14 +30,15 @@ const char *de_refusal_text(uint64_t refusal) {
         [DE_HISTORY_NAN] = "the value of a complete entry of the history is NaN",
         [DE_DIMENSIONS] = "the first trial asks for a 17th dimension",
         [DE_EXTRA_TRIALS] = "a 65th trial beyond the population asks in one generation",
-        [DE_ENTRY_NAN] = "a new candidate would have an entry that is NaN",
         [DE_BAD_FILE] = "the file is empty, cut off or its chain is broken, or the lent memory is too short for it",
         [DE_BAD_CONTENT] = "what the file holds, or the state that is to be saved, is none that a sampler can have, or "
                            "the state's bounds rule is midpoint",
         [DE_MALFORMED_LINE] = "a line of the metrics export is malformed",
         [DE_SHORT_HISTORY] = "the lent history has fewer places than the metrics export has entries",
     };
-    return refusal < sizeof texts / sizeof *texts ? texts[refusal] : "no refusal has this number";
+    /* 11 is within the table and has no text. */
+    const char *text = refusal < sizeof texts / sizeof *texts ? texts[refusal] : NULL;
+    return text != NULL ? text : "no refusal has this number";
 }
 
 /* Each of these says whether the fields of a struct hold the marks that the header says. */

@@ -1,4 +1,5 @@
-/* What the C tests share: an expectation, counted where it fails, and what a test says at its end. */
+/* What the C tests share: an expectation, counted where it fails, and what a test says at its end. The first hundred
+ * that fail are told. */
 #ifndef EXPECT_H
 #define EXPECT_H
 
@@ -8,9 +9,8 @@ static int failures;
 
 #define EXPECT(c)                                                                                                      \
     do {                                                                                                               \
-        if (!(c)) {                                                                                                    \
+        if (!(c) && failures++ < 100) {                                                                                \
             printf("line %d: not so: %s\n", __LINE__, #c);                                                             \
-            failures++;                                                                                                \
         }                                                                                                              \
     } while (0)
 

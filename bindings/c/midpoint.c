@@ -3,7 +3,6 @@
  * where all is as expected. */
 #include <emkhurtov.h>
 
-#include <float.h>
 #include <math.h>
 #include <string.h>
 
@@ -160,7 +159,7 @@ static DeAnswer close_by_hand(DeState *s, double b, double o, uint64_t word, DeD
 }
 
 static void by_hand(void) {
-    static const double tiny = 5e-324, most = 1e300;
+    static const double tiny = 5e-324, most = 1e300, limit = 4e300;
     const struct {
         double low, high, b, o;
         double entries[2][3]; /* under clamp and under midpoint, of the three mutants */
@@ -178,6 +177,13 @@ static void by_hand(void) {
         {0.0, 1.0, 0.75, 0x3p-54, {{1.0, 1.0, 0x1p-52}, {0.5 + 0x1p-53, 0.5 + 0x1p-53, 0x1p-52}}},
         {tiny, 1.0, 2 * tiny, 5 * tiny, {{tiny, tiny, 5 * tiny}, {3 * tiny, 3 * tiny, 5 * tiny}}},
         {-most, most, -most, most, {{-most, -most, most}, {0.0, 0.0, most}}},
+        /* Parents at the largest size of an entry, and between it and the bounds. */
+        {0.0, 1.0, 0.0, limit, {{0.0, 0.0, 1.0}, {1.0, 1.0, 1.0}}},
+        {-most, most, 0.0, limit, {{-most, -most, most}, {most, most, most}}},
+        {-most, most, 0.0, -limit, {{most, most, -most}, {-most, -most, -most}}},
+        {-most, most, 0.0, 2.5 * most, {{-most, -most, most}, {1.5 * most / 2, 1.5 * most / 2, most}}},
+        {-most, most, limit, -limit, {{most, most, -most}, {-most, -most, -most}}},
+        {-most, most, -limit, limit, {{-most, -most, most}, {most, most, most}}},
     };
     for (size_t i = 0; i < COUNT(rows); i++) {
         DeDistribution d = {.kind = DE_FLOAT, .low = rows[i].low, .high = rows[i].high};
@@ -189,7 +195,7 @@ static void by_hand(void) {
                 twin = state;
                 EXPECT(close_by_hand(&twin, rows[i].b, rows[i].o, word, d).kind == DE_FLOAT && twin.closed == 2);
                 EXPECT(memcmp(twin.parents, before.parents, sizeof twin.parents) == 0);
-                EXPECT(twin.candidates[0].x[0] == rows[i].b);
+                EXPECT(twin.candidates[0].x[0] == clamped(rows[i].b, d.low, d.high));
                 for (int slot = 1; slot < SLOTS; slot++) {
                     double x = twin.candidates[slot].x[0];
                     EXPECT(x == expected[0] || x == expected[1] || x == expected[2]);
@@ -203,26 +209,23 @@ static void by_hand(void) {
     }
 }
 
-/* A mutant's infinity is beyond a bound, and its NaN is refused, under both rules in the same calls. */
-static void infinities_and_nans(void) {
+/* A parent's entry that is over 4e300 in size, by one double, is refused under both rules, and the state stays. */
+static void beyond_all_entries(void) {
     static const DeDistribution d = {.kind = DE_FLOAT, .low = 0.0, .high = 1.0};
-    size_t refused = 0;
+    static const double over = 4.000000000000001e300;
+    const double pairs[][2] = {{0.0, over}, {0.0, -over}, {over, 0.0}, {-over, 0.0}};
     for (uint64_t rule = DE_CLAMP; rule <= DE_MIDPOINT; rule++) {
         begin_by_hand(rule, d);
         for (uint64_t word = 0; word < WORDS; word++) {
             twin = state;
-            DeAnswer a = close_by_hand(&twin, 0.0, DBL_MAX, word, d);
-            if (a.kind == DE_REFUSED) {
-                EXPECT(a.refusal == DE_ENTRY_NAN && memcmp(&twin, &before, sizeof twin) == 0);
-                refused++;
-            } else {
-                /* The mutants of slots 1 and 3 are minus infinity: (DBL_MAX + 0) / 2 is above the high bound. */
-                EXPECT(a.kind == DE_FLOAT && twin.candidates[0].x[0] == 0.0);
-                EXPECT(twin.candidates[1].x[0] == (double)rule && twin.candidates[3].x[0] == (double)rule);
-            }
+            const double *pair = pairs[word % COUNT(pairs)];
+            DeAnswer a = close_by_hand(&twin, pair[0], pair[1], word, d);
+            EXPECT(a.kind == DE_REFUSED && a.refusal == DE_STATE_NOT_SOUND && a.draws == 0);
+            DeLook look = de_checked_look(&twin, sizeof twin);
+            EXPECT(look.kind == DE_LOOK_REFUSED && look.refusal == DE_STATE_NOT_SOUND);
+            EXPECT(memcmp(&twin, &before, sizeof twin) == 0);
         }
     }
-    EXPECT(refused > 0 && refused % 2 == 0 && refused < 2 * WORDS);
 }
 
 /* ---- No slot more, none less: each holds the least result that was counted for it, the latest of these. */
@@ -258,7 +261,7 @@ int main(void) {
     campaigns();
     parents_beyond_bounds();
     by_hand();
-    infinities_and_nans();
+    beyond_all_entries();
     least_results();
     return ended("C midpoint");
 }

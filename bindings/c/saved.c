@@ -154,7 +154,9 @@ static void no_states(void) {
 
 /* Every word of a state's memory changed in turn: both writers say the same. */
 static void changed_states(void) {
-    static const uint64_t words[] = {0, 1, 2, 3, 4, UINT64_C(1) << 63, UINT64_C(0x7ff8000000000000), UINT64_MAX};
+    /* Counts and cases; minus zero; 4e300, which an entry may be, and the double above it, with both signs; NaN. */
+    const uint64_t minus = UINT64_C(1) << 63, most = UINT64_C(0x7e57e43c8800759c), nan = UINT64_C(0x7ff8000000000000);
+    const uint64_t words[] = {0, 1, 2, 3, 4, minus, most, most + 1, minus | most, minus | (most + 1), nan, UINT64_MAX};
     size_t saved = 0, refused = 0;
     walk_begin(&walk, DE_BEST1, 5, 5, 2);
     for (int k = 0; k < 60; k++) {

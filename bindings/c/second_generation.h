@@ -5,6 +5,7 @@
 
 #include <emkhurtov.h>
 
+#include <math.h>
 #include <string.h>
 
 typedef struct {
@@ -12,6 +13,8 @@ typedef struct {
     uint64_t word;                             /* the generator after them */
     uint64_t draws;
     size_t below, above; /* how many entries are from a mutant that was below its low, or above its high, bound */
+    size_t nans;         /* how many from a mutant that was NaN */
+    double largest;      /* the size of the largest mutant's entry */
 } Generation;
 
 /* What candidates are made from: a state's set-up, dimensions, parents and best slot, with bounds for each entry. */
@@ -78,6 +81,8 @@ static double from_mutant(const Makings *m, double v, double x, uint64_t j, Gene
     int below = v<low, above = v> high;
     g->below += (size_t)below;
     g->above += (size_t)above;
+    g->nans += v != v;
+    g->largest = fabs(v) > g->largest ? fabs(v) : g->largest;
     if (m->state->setup.bounds_rule == DE_MIDPOINT && (below || above)) {
         double sum = x + (below ? low : high);
         v = sum / 2.0;

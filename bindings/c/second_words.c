@@ -83,15 +83,15 @@ static int allowed_trials(const uint64_t *w, uint64_t t, uint64_t d) {
     return 1;
 }
 
-static int finite(double x) {
-    return x >= -DBL_MAX && x <= DBL_MAX;
+static int entry_fits(double x) {
+    return x >= -4e300 && x <= 4e300;
 }
 
 /* A candidate's words, by the words of the dimensions. */
 static int allowed_candidate(const uint64_t *w, const uint64_t *dims, uint64_t d) {
     for (uint64_t k = 0; k < d; k++) {
         int choice = dims[5 * k] == 3;
-        if (choice ? w[k] >= dims[5 * k + 1] : !finite(to_double(w[k]))) {
+        if (choice ? w[k] >= dims[5 * k + 1] : !entry_fits(to_double(w[k]))) {
             return 0;
         }
     }

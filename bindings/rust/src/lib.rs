@@ -38,6 +38,8 @@ mod ceiling;
 mod export;
 mod fault;
 mod ffi;
+#[cfg(test)]
+mod handed_in;
 mod layout;
 mod refusal;
 mod sampler;

@@ -14,7 +14,7 @@ use std::fmt;
 #[non_exhaustive]
 #[derive(Clone, Copy, Debug, PartialEq, Eq, Hash)]
 pub enum Refusal {
-    /// 0: the state is none that a sampler can have.
+    /// 0: the state is none that a sampler can have, such as one with an entry over 4e300 in size.
     StateNotSound,
     /// 1: the mutation factor F is NaN, below 0 or above 2.
     MutationFactor,
@@ -36,11 +36,9 @@ pub enum Refusal {
     Dimensions,
     /// 10: a 65th trial beyond the population in one generation.
     ExtraTrials,
-    /// 11: a new candidate would have an entry that is NaN.
-    EntryNan,
 }
 
-const ALL: [Refusal; 12] = [
+const ALL: [Refusal; 11] = [
     Refusal::StateNotSound,
     Refusal::MutationFactor,
     Refusal::CrossoverRate,
@@ -52,11 +50,10 @@ const ALL: [Refusal; 12] = [
     Refusal::HistoryNan,
     Refusal::Dimensions,
     Refusal::ExtraTrials,
-    Refusal::EntryNan,
 ];
 
 impl Refusal {
-    /// The refusal's number, 0 to 11.
+    /// The refusal's number, 0 to 10. The number 11 is unused since 0.9.0: no call gives it.
     pub fn number(self) -> u64 {
         self as u64
     }
@@ -65,7 +62,7 @@ impl Refusal {
         let place = usize::try_from(number).ok();
         match place.and_then(|i| ALL.get(i)) {
             Some(refusal) => *refusal,
-            None => unreachable!("the library gives refusals 0 to 11, and this is {number}"),
+            None => unreachable!("the library gives refusals 0 to 10, and this is {number}"),
         }
     }
 }
@@ -84,7 +81,6 @@ impl fmt::Display for Refusal {
             Refusal::HistoryNan => "the value of a complete entry of the history is NaN",
             Refusal::Dimensions => "the first trial asks for a 17th dimension",
             Refusal::ExtraTrials => "a 65th trial beyond the population asks in one generation",
-            Refusal::EntryNan => "a new candidate would have an entry that is NaN",
         };
         write!(f, "refusal {}: {why}", self.number())
     }
@@ -105,6 +101,23 @@ mod tests {
             assert_eq!(refusal.number(), place as u64);
             assert_eq!(Refusal::numbered(place as u64), *refusal);
         }
+    }
+
+    /// Of a number that no refusal has, the library says so.
+    #[test]
+    fn the_number_11_is_unused() {
+        for number in [11, 16, u64::MAX] {
+            // SAFETY: the text ends in a zero and stays.
+            let text = unsafe { CStr::from_ptr(de_refusal_text(number)) };
+            assert_eq!(text.to_str(), Ok("no refusal has this number"));
+        }
+        assert!(ALL.iter().all(|refusal| refusal.number() < 11));
+    }
+
+    #[test]
+    #[should_panic(expected = "the library gives refusals 0 to 10, and this is 11")]
+    fn the_number_11_is_never_given() {
+        Refusal::numbered(11);
     }
 
     #[test]

@@ -10,7 +10,7 @@ use crate::layout;
 /// The length of the largest saved file, in bytes: 160 slots, 16 dimensions, 224 open trials.
 pub const MAX_FILE: usize = 73_120;
 
-/// Why a file was refused. The numbers go on from those of [`Refusal`](crate::Refusal).
+/// Why a file was refused. The numbers go on from those of [`Refusal`](crate::Refusal), and 11 is unused.
 ///
 /// ```
 /// use emkhurtov::{FileRefusal, Sampler};
@@ -22,8 +22,9 @@ pub const MAX_FILE: usize = 73_120;
 pub enum FileRefusal {
     /// 12: the file is empty, no multiple of 32 bytes, or its chain is broken; in saving, the lent memory is too short.
     BadFile,
-    /// 13: no sound state has the file's records; in saving, the state is not sound, or its bounds rule is
-    /// [`BoundsRule::Midpoint`](crate::BoundsRule::Midpoint), for which a file has no place yet.
+    /// 13: no sound state has the file's records (one with an entry over 4e300 in size is not sound); in saving, the state
+    /// is not sound, or its bounds rule is [`BoundsRule::Midpoint`](crate::BoundsRule::Midpoint), for which a file has no
+    /// place yet.
     BadContent,
 }
 
