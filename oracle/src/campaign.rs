@@ -3,6 +3,7 @@
 use std::collections::HashSet;
 
 use crate::distribution::Distribution;
+use crate::entries;
 use crate::midpoint::BoundsRule;
 use crate::param::ParamValue;
 use crate::reader::Plain;
@@ -32,6 +33,8 @@ pub struct Campaign {
     pub cleared: bool,
     /// It comes from a kept file, for counting alone.
     pub restored: bool,
+    /// How the file's entries were judged: what is asserted of them.
+    pub limits: entries::Reading,
 }
 
 impl Campaign {
@@ -51,6 +54,7 @@ impl Campaign {
             seen: HashSet::new(),
             cleared: false,
             restored: false,
+            limits: entries::Reading::default(),
         }
     }
 

@@ -7,6 +7,7 @@ use crate::campaign::Campaign;
 use crate::counts::Counts;
 use crate::distribution::Distribution;
 use crate::draws;
+use crate::entries;
 use crate::history::History;
 use crate::midpoint::BoundsRule;
 use crate::param::ParamValue;
@@ -114,6 +115,7 @@ impl Before {
         counts.closings_first += u64::from(first);
         counts.closings_later += u64::from(!first);
         counts.closings_midpoint += u64::from(c.rule == BoundsRule::Midpoint);
+        counts.closings_unmade += u64::from(entries::has_unmade(&p));
         counts.closings_160 += u64::from(p.size() == 160);
         counts.closings_cleared += u64::from(c.cleared);
         match c.strategy {

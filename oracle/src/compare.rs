@@ -46,6 +46,12 @@ impl fmt::Display for Totals {
         for (label, count) in self.counts.rows() {
             writeln!(f, "{count:>12}  {label}")?;
         }
+        for (label, size) in [
+            ("entry", self.counts.largest_entry),
+            ("mutant's entry", self.counts.largest_mutant),
+        ] {
+            writeln!(f, "{size:>12.3e}  the size of the largest {label}")?;
+        }
         for (k, count) in self.counts.refused.iter().enumerate().filter(|(_, c)| **c > 0) {
             let by = if k < 12 { "the table" } else { "docs/SAVED.md" };
             writeln!(f, "{count:>12}  refusal {k} (by {by}, not by the Rust)")?;

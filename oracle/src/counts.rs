@@ -8,6 +8,9 @@ macro_rules! counts {
             $($(#[$group])* pub $field: u64,)*
             /// Refused calls and set-ups, by the table's number.
             pub refused: [u64; 14],
+            /// The largest entries, in size.
+            pub largest_entry: f64,
+            pub largest_mutant: f64,
         }
 
         impl Counts {
@@ -22,6 +25,8 @@ macro_rules! counts {
                 for (mine, theirs) in self.refused.iter_mut().zip(other.refused) {
                     *mine += theirs;
                 }
+                self.largest_entry = self.largest_entry.max(other.largest_entry);
+                self.largest_mutant = self.largest_mutant.max(other.largest_mutant);
             }
         }
     };
@@ -38,6 +43,7 @@ counts! {
     calls = "sample calls answered",
     restarted = "sample calls answered behind a restart",
     midpoint = "sample calls answered under midpoint",
+    extreme = "sample calls answered with F = 2 and a Float bound of 9e299 or more in size",
     float = "answers: float",
     int = "answers: int",
     choice = "answers: choice",
@@ -67,6 +73,8 @@ counts! {
     restores_unsaved = "restarts: a state that no save has laid",
     restores_moved = "restarts: records elsewhere or in another order",
     restores_midpoint = "restarts: from midpoint to the clamp of a file",
+    restores_unmade = "restarts: with an entry over 1e300 in size, which only a file has",
+    restores_too_large = "restarts: refused for an entry over 4e300 in size alone",
 
     discovered = "discovery: a dimension",
     discovery_ends = "discovery: its end",
@@ -156,6 +164,9 @@ counts! {
     best_infinite = "best slot: 0, all +infinity",
     best_max = "best slot: not 0, the least is the largest number, later closing",
     best_zeros = "best slot: +0 before -0, later closing",
+    closings_unmade = "closings: a parent's entry over 1e300 in size",
+    mutants_over = "mutation: an entry over 4e300 in size",
+    mutants_far = "mutation: an entry over 20e300 in size, under CurrentToBest1 alone",
     entries_parent = "crossover: entry equal to the parent's",
     entries_mutant = "crossover: entry of the mutant within its bounds",
     entries_low = "crossover: entry of the mutant at low",

@@ -4,6 +4,7 @@
 use crate::campaign::Campaign;
 use crate::counts::Counts;
 use crate::distribution::Distribution;
+use crate::entries;
 use crate::midpoint::BoundsRule;
 use crate::sampler::de::{DEStrategy, Probe};
 
@@ -26,9 +27,14 @@ pub fn count(p: &Probe<'_>, c: &Campaign, word: u64, counts: &mut Counts) {
         let own = rng.usize(0..bounds.len());
         for (j, &bounds) in bounds.iter().enumerate() {
             let parent = p.parent(slot).entries[j];
-            // So half the sum is within them too, clamped or not, and drawing in a parent's own entry would change none.
+            // So half the sum is within them too, clamped or not, and drawing in a parent's own entry would change none. A file may
+            // have others, and what is restored has clamp.
             let within = bounds.0 <= parent && parent <= bounds.1;
-            assert!(c.rule == BoundsRule::Clamp || within, "a parent within its bounds");
+            assert!(
+                c.rule == BoundsRule::Clamp || c.restored || within,
+                "a parent within its bounds"
+            );
+            entries::count_mutant(mutant(p, c, &taken, j), c, counts);
             if j != own {
                 let unit = rng.f64();
                 counts.unit_below += u64::from(unit < c.cr);

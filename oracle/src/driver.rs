@@ -8,6 +8,7 @@ use crate::campaign::Campaign;
 use crate::closing::Before;
 use crate::counts::Counts;
 use crate::distribution::Distribution;
+use crate::entries;
 use crate::history::History;
 use crate::judge;
 use crate::kept::Kept;
@@ -26,6 +27,7 @@ pub struct Driver {
     campaign: Option<Campaign>,
     pub(crate) history: History,
     pub(crate) reading: Reading,
+    pub(crate) limits: entries::Reading,
     kept: Kept,
     line: u64,
     pub counts: Counts,
@@ -98,6 +100,7 @@ impl Driver {
             Command::State => {
                 let c = self.campaign.as_ref().ok_or(Malformed)?;
                 self.counts.states += 1;
+                entries::assert_small(c, &mut self.counts);
                 answers::state(&c.sampler.probe(), out);
                 Ok(())
             }
@@ -199,7 +202,7 @@ impl Driver {
 
     /// The history is the caller's and stays.
     fn restore(&mut self, out: &mut Vec<u8>) {
-        match self.kept.restore() {
+        match self.kept.restore(self.limits) {
             Ok((mut c, known)) => {
                 self.counts.restores += 1;
                 self.counts.restores_unsaved += u64::from(!known);
@@ -209,10 +212,16 @@ impl Driver {
                 self.counts.restores_midpoint += u64::from(before == BoundsRule::Midpoint);
                 c.rule = self.reading.restored(before);
                 c.restored = true;
+                c.limits = self.limits;
+                entries::assert_small(&c, &mut self.counts);
+                self.counts.restores_unmade += u64::from(entries::has_unmade(&c.sampler.probe()));
                 self.campaign = Some(c);
                 out.extend_from_slice(b"restored\n");
             }
-            Err(k) => self.refuse(k, out),
+            Err(k) => {
+                self.counts.restores_too_large += u64::from(self.kept.is_too_large());
+                self.refuse(k, out);
+            }
         }
     }
 
@@ -233,6 +242,10 @@ impl Driver {
         let answer = c.sample(d, trial, self.history.lent());
         before.compare(c, d, trial, &answer, &self.history, &mut self.counts);
         let draws = c.sampler.probe().draws() - before.draws;
+        if draws > 0 {
+            entries::assert_small(c, &mut self.counts);
+        }
+        self.counts.extreme += u64::from(c.f == 2.0 && entries::has_extreme_bounds(&c.sampler.probe()));
         answers::setting(&answer, out);
         out.push(b' ');
         text::whole(out, draws);

@@ -7,10 +7,11 @@ use crate::generate::exhaustive;
 use crate::generate::stream::{SHORT_FROM, Stream};
 
 /// The parts by hand. A comment `# by hand: refused K: WHY` says what the line after it must answer.
-const BY_HAND: [&str; 3] = [
+const BY_HAND: [&str; 4] = [
     include_str!("../refusals.script"),
     include_str!("../restarts.script"),
     include_str!("../midpoint.script"),
+    include_str!("../extremes.script"),
 ];
 
 /// Before anything else: no file has been kept yet.

@@ -5,6 +5,7 @@ use std::collections::VecDeque;
 
 use crate::campaign::Campaign;
 use crate::driver::Malformed;
+use crate::entries;
 use crate::reader;
 use crate::saved::{self, RECORD, Record};
 use crate::text;
@@ -43,9 +44,9 @@ impl Kept {
     }
 
     /// The sampler that the kept file holds, and whether it is a copy of a saved one; or the check that refuses the file.
-    pub fn restore(&self) -> Result<(Campaign, bool), u8> {
+    pub fn restore(&self, limits: entries::Reading) -> Result<(Campaign, bool), u8> {
         let mut records = saved::chain(&self.file).ok_or(12)?;
-        let read = Campaign::of(reader::state(&records).ok_or(13)?);
+        let read = Campaign::of(reader::state(&records, limits).ok_or(13)?);
         records.sort();
         assert_eq!(
             saved::records(&read),
@@ -56,6 +57,12 @@ impl Kept {
             Some(s) => (s.campaign.copy(), true),
             None => (read, false),
         })
+    }
+
+    /// Whether a refused file is refused for the size of an entry alone.
+    pub fn is_too_large(&self) -> bool {
+        let finite = entries::Reading(Some(entries::Fault::Unlimited));
+        saved::chain(&self.file).is_some_and(|records| reader::state(&records, finite).is_some())
     }
 
     /// Whether the records stand as the writer lays them.

@@ -80,6 +80,7 @@ pub mod counted;
 pub mod counts;
 mod draws;
 pub mod driver;
+pub mod entries;
 pub mod export;
 pub mod fixed;
 pub mod generate;

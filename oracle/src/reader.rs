@@ -4,6 +4,7 @@
 use std::collections::HashSet;
 
 use crate::distribution::{CategoricalDistribution, Distribution, FloatDistribution, IntDistribution};
+use crate::entries::{self, Whose};
 use crate::judge;
 use crate::midpoint::BoundsRule;
 use crate::sampler::de::DEStrategy;
@@ -35,7 +36,7 @@ pub struct Row {
 }
 
 /// The state that the records of a chain stand for; nothing where check 13 applies.
-pub fn state(records: &[Record]) -> Option<Plain> {
+pub fn state(records: &[Record], limits: entries::Reading) -> Option<Plain> {
     let lists = Lists::of(records)?;
     let [f, cr, strategy, size_set, size, seed] = lists.words(1, 6)?[..] else {
         return None;
@@ -77,9 +78,9 @@ pub fn state(records: &[Record]) -> Option<Plain> {
     }
     let trials = trials(lists.words(4, 2 * t as usize)?, d)?;
     let in_all = if closed > 0 { size * (d as usize + 1) } else { 0 };
-    let (parents, values) = parents(lists.words(5, in_all)?, &dims)?;
+    let (parents, values) = parents(lists.words(5, in_all)?, &dims, limits)?;
     let in_all = if ended { size.max(t as usize) * d as usize } else { 0 };
-    let candidates = rows(lists.words(6, in_all)?, &dims)?;
+    let candidates = candidates(lists.words(6, in_all)?, &dims, limits)?;
     if best != best_slot(&values) {
         return None;
     }
@@ -186,32 +187,35 @@ fn trials(words: &[u64], d: u64) -> Option<Vec<(u64, usize)>> {
     words.chunks(2).map(one).collect()
 }
 
-fn rows(words: &[u64], dims: &[Distribution]) -> Option<Vec<Row>> {
+fn candidates(words: &[u64], dims: &[Distribution], limits: entries::Reading) -> Option<Vec<Row>> {
+    let fits = |entry: f64| limits.fits(entry, Whose::Candidate);
     // Without dimensions there are no words, and no piece is empty.
-    words.chunks(dims.len().max(1)).map(|words| row(words, dims)).collect()
+    let pieces = words.chunks(dims.len().max(1));
+    pieces.map(|words| row(words, dims, fits)).collect()
 }
 
-fn row(words: &[u64], dims: &[Distribution]) -> Option<Row> {
+fn row(words: &[u64], dims: &[Distribution], fits: impl Fn(f64) -> bool) -> Option<Row> {
     let (mut entries, mut choices) = (Vec::new(), Vec::new());
     for (dim, (&word, d)) in words.iter().zip(dims).enumerate() {
         match d {
             Distribution::Categorical(d) if word < d.n_choices as u64 => choices.push((dim, word as usize)),
             Distribution::Categorical(_) => return None,
-            _ if f64::from_bits(word).is_finite() => entries.push(f64::from_bits(word)),
+            _ if fits(f64::from_bits(word)) => entries.push(f64::from_bits(word)),
             _ => return None,
         }
     }
     Some(Row { entries, choices })
 }
 
-fn parents(words: &[u64], dims: &[Distribution]) -> Option<(Vec<Row>, Vec<f64>)> {
+fn parents(words: &[u64], dims: &[Distribution], limits: entries::Reading) -> Option<(Vec<Row>, Vec<f64>)> {
+    let fits = |entry: f64| limits.fits(entry, Whose::Parent);
     let (mut parents, mut values) = (Vec::new(), Vec::new());
     for words in words.chunks(dims.len() + 1) {
         let value = f64::from_bits(words[dims.len()]);
         if value.is_nan() {
             return None;
         }
-        parents.push(row(&words[..dims.len()], dims)?);
+        parents.push(row(&words[..dims.len()], dims, fits)?);
         values.push(value);
     }
     Some((parents, values))

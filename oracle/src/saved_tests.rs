@@ -130,7 +130,7 @@ fn check_13() {
             })
             .collect();
         changed(&mut records);
-        reader::state(&records)
+        reader::state(&records, Default::default())
     };
     assert!(read(|_| ()).is_some());
     assert!(read(|r| r.reverse()).is_some());

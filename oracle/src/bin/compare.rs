@@ -1,6 +1,6 @@
 //! `compare [--seed S] [--calls C] [--malformed K] [--script FILE] [--oracle-fault NAME] PROGRAM`: the Rust and PROGRAM on
 //! the same scripts, byte by byte. Ends with status 1 at the first difference, of which it prints the script. With a fault in
-//! the oracle, in its generator or in its reading of an entry's state or of midpoint, it must.
+//! the oracle, in its generator or in its reading of an entry's state, of midpoint or of W8's limit, it must.
 
 use std::process::ExitCode;
 use std::time::Instant;
@@ -8,7 +8,7 @@ use std::time::Instant;
 use oracle::compare::{self, Outcome};
 use oracle::generate::malformed;
 use oracle::generate::stream::Stream;
-use oracle::{history, midpoint, sections};
+use oracle::{entries, history, midpoint, sections};
 
 const USAGE: &str =
     "usage: compare [--seed S] [--calls C] [--malformed K] [--script FILE] [--oracle-fault NAME] PROGRAM";
@@ -49,6 +49,8 @@ fn make_faulty(name: &str) -> Option<()> {
         fastrand::make_faulty();
     } else if let Some((_, fault)) = midpoint::FAULTS.iter().find(|(word, _)| *word == name) {
         midpoint::make_faulty(*fault);
+    } else if let Some((_, fault)) = entries::FAULTS.iter().find(|(word, _)| *word == name) {
+        entries::make_faulty(*fault);
     } else {
         history::make_faulty(history::FAULTS.iter().find(|(word, _)| *word == name)?.1);
     }

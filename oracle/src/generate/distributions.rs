@@ -148,6 +148,26 @@ pub fn beyond(dice: &mut Dice) -> Distribution {
     }
 }
 
+/// One whose bounds are as large as they may be, or nearly so; seldom another.
+pub fn extreme(dice: &mut Dice) -> Distribution {
+    let top = judge::FLOAT_LIMIT;
+    let near = |dice: &mut Dice| top * (1.0 - 0.1 * dice.unit());
+    let (low, high) = match dice.below(9) {
+        0..=3 => (-top, top),
+        4..=6 => (-near(dice), near(dice)),
+        7 => *dice.pick(&[
+            (0.0, top),
+            (-top, 0.0),
+            (-top, -top),
+            (top.next_down(), top),
+            (-top, -top.next_down()),
+        ]),
+        _ => return accepted(dice),
+    };
+    let step = float_step(dice, low, high);
+    float(low, high, step)
+}
+
 /// A step whose last multiple is above high by rounding, while (high - low)/step rounds up to its number.
 fn past_high(dice: &mut Dice) -> Distribution {
     for _ in 0..1_000 {

@@ -1,8 +1,9 @@
 //! Scripts that break the rules of the language, or may: a malformed line ends the run, so each is a run of its own.
 
 use super::campaign;
+use super::class::Class;
 use super::dice::Dice;
-use super::plan::{Class, Plan};
+use super::plan::Plan;
 use crate::script::{LONGEST_HISTORY, LONGEST_LINE};
 
 const NEW: &str = "new 3fe0000000000000 3feccccccccccccd rand1 4 1";

@@ -2,6 +2,7 @@
 //! metrics collector.
 
 pub mod campaign;
+pub mod class;
 pub mod decimals;
 pub mod dice;
 pub mod distributions;

@@ -1,5 +1,6 @@
 //! What a random section is to be like.
 
+use super::class::Class;
 use super::dice::Dice;
 use super::distributions;
 use super::exhaustive::STRATEGIES;
@@ -8,54 +9,6 @@ use crate::distribution::Distribution;
 use crate::judge;
 use crate::midpoint::BoundsRule;
 use crate::script::SetUp;
-
-/// The classes of random sections.
-#[derive(Clone, Copy, Debug, PartialEq)]
-pub enum Class {
-    /// Four or five slots and mostly one call a trial: generation upon generation.
-    Quick,
-    /// Few slots and dimensions.
-    Small,
-    /// Up to 16 dimensions, any size.
-    Wide,
-    /// 160 slots.
-    Big,
-    /// A slot's trial is held back until 64 extras are given.
-    Extras,
-    /// No continuous dimension.
-    Discrete,
-    /// A history of thousands of entries.
-    Long,
-    /// Left off early: in discovery, or in the first generation.
-    Short,
-    /// CR is a unit that the first closing draws.
-    Rate,
-    /// Dimensions on which one way of rounding parts from another.
-    Rounding,
-    /// Midpoint, and mutants with entries on the bounds and beyond them.
-    Beyond,
-    /// Refused calls between the others.
-    Refusals,
-}
-
-impl Class {
-    pub fn name(self) -> &'static str {
-        match self {
-            Class::Quick => "generation upon generation",
-            Class::Small => "few slots and dimensions",
-            Class::Wide => "up to 16 dimensions",
-            Class::Big => "160 slots",
-            Class::Extras => "64 extras",
-            Class::Discrete => "choices alone",
-            Class::Long => "long history",
-            Class::Short => "left off early",
-            Class::Rate => "CR met by a unit",
-            Class::Rounding => "rounding at its edges",
-            Class::Beyond => "midpoint, entries on the bounds and beyond them",
-            Class::Refusals => "refused calls between the others",
-        }
-    }
-}
 
 /// How many calls a trial makes.
 #[derive(Clone, Copy, Debug)]
@@ -97,6 +50,8 @@ pub struct Chances {
     pub slow: u32,
     /// A call is refused.
     pub refused: u32,
+    /// A file that is restored has entries far past their bounds.
+    pub large: u32,
 }
 
 /// What a random section is to be like.
@@ -164,6 +119,7 @@ impl Plan {
                 first: often(dice),
                 slow: *dice.pick(&[0, 10, 30]),
                 refused: 0,
+                large: *dice.pick(&[0, 0, 0, 10]),
             },
         };
         plan.suit(class, dice);
@@ -212,6 +168,7 @@ impl Plan {
             }
             Class::Refusals => {
                 self.chances.refused = *dice.pick(&[5, 15, 40]);
+                self.chances.large = 30;
                 self.hold = dice.percent(30);
                 self.workers += if self.hold { 80 } else { 0 };
                 self.generations = dice.between(1, 4) as u64;
@@ -241,6 +198,20 @@ impl Plan {
                 self.workers = *dice.pick(&[1, 4]);
                 self.chances.slow = 0;
             }
+            Class::Extreme => {
+                self.setup.f = *dice.pick(&[2.0, 2.0, 2.0, 2.0f64.next_down()]);
+                self.setup.cr = *dice.pick(&[1.0, 1.0, 0.9]);
+                self.setup.rule = *dice.pick(&[BoundsRule::Clamp, BoundsRule::Midpoint]);
+                self.each = Each::One;
+                self.generations = dice.between(10, 30) as u64;
+                self.workers = *dice.pick(&[1, 4]);
+                self.chances.slow = 0;
+                self.restarts = self.setup.rule == BoundsRule::Clamp;
+                self.damage = true;
+                self.chances.large = 80;
+                // Parents that a file brought stay.
+                self.values = *dice.pick(&[self.values, Values::Rising]);
+            }
             Class::Small | Class::Discrete => (),
         }
     }
@@ -252,7 +223,7 @@ fn dims(class: Class, dice: &mut Dice) -> Vec<Distribution> {
         Class::Quick | Class::Small | Class::Extras | Class::Long => dice.between(1, 4),
         Class::Big => *dice.pick(&[1, 2, 16]),
         Class::Rate => dice.between(2, 6),
-        Class::Rounding | Class::Beyond => dice.between(1, 3),
+        Class::Rounding | Class::Beyond | Class::Extreme => dice.between(1, 3),
         Class::Wide | Class::Refusals => *dice.pick(&[16, 15, many]),
         Class::Discrete => dice.between(1, 5),
         Class::Short => dice.between(1, 16),
@@ -262,6 +233,7 @@ fn dims(class: Class, dice: &mut Dice) -> Vec<Distribution> {
         Class::Discrete => distributions::some_choice(dice),
         Class::Rounding => distributions::rounding(dice),
         Class::Beyond => distributions::beyond(dice),
+        Class::Extreme => distributions::extreme(dice),
         _ if continuous => distributions::continuous(dice),
         _ => distributions::accepted(dice),
     };
@@ -277,6 +249,7 @@ fn size(class: Class, dice: &mut Dice, dims: &[Distribution]) -> Option<u64> {
         Class::Quick | Class::Rounding | Class::Beyond | Class::Extras | Class::Refusals => {
             *dice.pick(&[Some(0), Some(3), Some(4), Some(5)])
         }
+        Class::Extreme => *dice.pick(&[Some(0), Some(4), Some(5), Some(random)]),
         _ => *dice.pick(&[None, Some(0), Some(3), Some(4), Some(4), Some(5), Some(5), Some(random)]),
     }
 }

@@ -2,8 +2,11 @@
 //! they are refused with certainty, or changed so that they are another sound state with certainty.
 
 use super::campaign::Play;
-use super::plan::{Class, Plan};
+use super::class::Class;
+use super::mark::{CANDIDATES, PARENTS};
+use super::plan::Plan;
 use super::refused;
+use super::values;
 use crate::kept::LONGEST_FILE;
 use crate::midpoint::BoundsRule;
 use crate::saved::RECORD;
@@ -51,6 +54,9 @@ impl Play<'_> {
         }
         if self.dice.percent(20) {
             self.another_state();
+        }
+        if self.dice.percent(self.plan.chances.large) {
+            self.extreme_entries();
         }
         self.s.restore();
         self.s.look();
@@ -108,6 +114,28 @@ impl Play<'_> {
         let idle = *self.dice.pick(&[closed, closed, closed - 1, 0]);
         self.s
             .put(RECORD * 4 + 8, &[closed.to_le_bytes(), idle.to_le_bytes()].concat());
+    }
+
+    /// The kept file is made that of a state with entries of up to 4e300 in size; with a larger one it is refused first, often twice.
+    fn extreme_entries(&mut self) {
+        let mark = self.s.kept.as_ref().expect("a file was saved");
+        let both = &[PARENTS, CANDIDATES][..];
+        let kinds = *self.dice.pick(&[both, both, &both[..1], &both[1..]]);
+        let mut places: Vec<usize> = kinds.iter().flat_map(|&kind| mark.entries(kind)).collect();
+        if places.is_empty() {
+            return;
+        }
+        self.dice.shuffle(&mut places);
+        let refused = if self.plan.damage { self.dice.below(4) } else { 0 };
+        for &place in places.iter().take(refused) {
+            self.s.put(place, &values::too_large(self.dice).to_le_bytes());
+            self.s.restore_refused();
+            self.s.put(place, &values::sound_entry(self.dice).to_le_bytes());
+        }
+        let some = self.dice.between(1, places.len());
+        for &place in &places[..*self.dice.pick(&[some, places.len(), places.len()])] {
+            self.s.put(place, &values::sound_entry(self.dice).to_le_bytes());
+        }
     }
 
     /// The kept file is damaged, refused and mended.

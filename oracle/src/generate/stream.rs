@@ -3,9 +3,10 @@
 use std::collections::BTreeMap;
 
 use super::campaign;
+use super::class::{Class, TURNS};
 use super::dice::Dice;
 use super::exhaustive::{self, Case};
-use super::plan::{Class, Plan};
+use super::plan::Plan;
 use super::rate;
 use super::refused;
 use super::scattered;
@@ -16,40 +17,6 @@ pub const SHORT_FROM: u64 = 100_000;
 
 /// From so many calls on, the long one is.
 pub const LONG_FROM: u64 = 4_000_000;
-
-/// The classes in turn. Those whose generations close soonest come most often.
-const TURNS: [Class; 30] = [
-    Class::Quick,
-    Class::Wide,
-    Class::Quick,
-    Class::Beyond,
-    Class::Small,
-    Class::Quick,
-    Class::Extras,
-    Class::Quick,
-    Class::Refusals,
-    Class::Quick,
-    Class::Rate,
-    Class::Quick,
-    Class::Rounding,
-    Class::Discrete,
-    Class::Quick,
-    Class::Small,
-    Class::Quick,
-    Class::Rounding,
-    Class::Beyond,
-    Class::Long,
-    Class::Quick,
-    Class::Short,
-    Class::Quick,
-    Class::Rate,
-    Class::Small,
-    Class::Refusals,
-    Class::Rate,
-    Class::Extras,
-    Class::Big,
-    Class::Short,
-];
 
 /// What was aimed at in a class.
 #[derive(Clone, Copy, Debug, Default)]

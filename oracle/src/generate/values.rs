@@ -1,6 +1,7 @@
-//! Results of trials.
+//! Results of trials, and entries that a file has and no sampler makes.
 
 use super::dice::Dice;
+use crate::entries;
 use crate::history::{Entry, State};
 
 /// How the results of a campaign are chosen.
@@ -81,4 +82,29 @@ pub fn incomplete(trial: u64, figure: f64, dice: &mut Dice) -> Entry {
         },
         state: *dice.pick(&[State::Pruned, State::Failed]),
     }
+}
+
+/// An entry that a sound state may have, as large as it may be or nearly so.
+pub fn sound_entry(dice: &mut Dice) -> f64 {
+    let some = entries::LIMIT * dice.unit();
+    let size = *dice.pick(&[
+        entries::LIMIT,
+        entries::LIMIT,
+        entries::LIMIT.next_down(),
+        2e300f64.next_up(),
+        1e300f64.next_up(),
+        some,
+    ]);
+    signed(size, dice)
+}
+
+/// One that none may have.
+pub fn too_large(dice: &mut Dice) -> f64 {
+    let past = entries::LIMIT.next_up();
+    let size = *dice.pick(&[past, past, past, 5e300, f64::MAX, f64::INFINITY, f64::NAN]);
+    signed(size, dice)
+}
+
+fn signed(size: f64, dice: &mut Dice) -> f64 {
+    if dice.percent(50) { size } else { -size }
 }
