@@ -1,10 +1,9 @@
 //! How large an entry may be: a second reading of document 02, W8, which the Rust does not have. The reader of kept files asks
 //! it of every entry, and what the Rust and `midpoint` make of a sound state must keep to it.
 
-use std::sync::OnceLock;
-
 use crate::campaign::Campaign;
 use crate::counts::Counts;
+use crate::faults::Chosen;
 use crate::judge::FLOAT_LIMIT;
 use crate::sampler::de::Probe;
 
@@ -46,12 +45,8 @@ pub const FAULTS: [(&str, Fault); 8] = [
     ("candidates-alone", Fault::Candidates),
 ];
 
-static FAULT: OnceLock<Fault> = OnceLock::new();
-
 /// Every driver made from now on reads the limit so.
-pub fn make_faulty(fault: Fault) {
-    FAULT.set(fault).expect("one fault at a time");
-}
+pub static CHOSEN: Chosen<Fault> = Chosen::none();
 
 /// Whose entry it is.
 #[derive(Clone, Copy, Debug, PartialEq)]
@@ -66,7 +61,7 @@ pub struct Reading(pub(crate) Option<Fault>);
 
 impl Default for Reading {
     fn default() -> Self {
-        Self(FAULT.get().copied())
+        Self(CHOSEN.get())
     }
 }
 

@@ -3,9 +3,9 @@
 //! infinity unless the state is complete". All else about a history is the Rust's.
 
 use std::collections::HashMap;
-use std::sync::OnceLock;
 
 use crate::counts::Counts;
+use crate::faults::Chosen;
 use crate::sampler::CompletedTrial;
 
 /// The state of an entry.
@@ -59,12 +59,8 @@ pub const FAULTS: [(&str, Fault); 5] = [
     ("passed-over", Fault::PassedOver),
 ];
 
-static FAULT: OnceLock<Fault> = OnceLock::new();
-
 /// Every history made from now on reads the rule so.
-pub fn make_faulty(fault: Fault) {
-    FAULT.set(fault).expect("one fault at a time");
-}
+pub static CHOSEN: Chosen<Fault> = Chosen::none();
 
 /// The history of a script.
 pub struct History {
@@ -78,7 +74,7 @@ pub struct History {
 
 impl Default for History {
     fn default() -> Self {
-        Self::with(FAULT.get().copied())
+        Self::with(CHOSEN.get())
     }
 }
 

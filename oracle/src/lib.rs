@@ -82,6 +82,7 @@ mod draws;
 pub mod driver;
 pub mod entries;
 pub mod export;
+pub mod faults;
 pub mod fixed;
 pub mod generate;
 pub mod history;

@@ -3,7 +3,8 @@
 //! Rust's; set-ups with clamp never run that copy.
 
 use std::cell::Cell;
-use std::sync::OnceLock;
+
+use crate::faults::Chosen;
 
 /// What becomes of a mutant's entry beyond a bound.
 #[derive(Clone, Copy, Debug, Default, PartialEq)]
@@ -55,12 +56,8 @@ pub const FAULTS: [(&str, Fault); 8] = [
     ("restored", Fault::Restored),
 ];
 
-static FAULT: OnceLock<Fault> = OnceLock::new();
-
 /// Every driver made from now on reads W7 so.
-pub fn make_faulty(fault: Fault) {
-    FAULT.set(fault).expect("one fault at a time");
-}
+pub static CHOSEN: Chosen<Fault> = Chosen::none();
 
 /// How a driver reads W7: rightly, or with a fault.
 #[derive(Clone, Copy)]
@@ -68,7 +65,7 @@ pub struct Reading(pub(crate) Option<Fault>);
 
 impl Default for Reading {
     fn default() -> Self {
-        Self(FAULT.get().copied())
+        Self(CHOSEN.get())
     }
 }
 

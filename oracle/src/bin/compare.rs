@@ -44,17 +44,15 @@ fn words() -> Option<Words> {
     (!w.program.is_empty()).then_some(w)
 }
 
-fn make_faulty(name: &str) -> Option<()> {
-    if name == "generator" {
+fn make_faulty(word: &str) -> Option<()> {
+    if word == "generator" {
         fastrand::make_faulty();
-    } else if let Some((_, fault)) = midpoint::FAULTS.iter().find(|(word, _)| *word == name) {
-        midpoint::make_faulty(*fault);
-    } else if let Some((_, fault)) = entries::FAULTS.iter().find(|(word, _)| *word == name) {
-        entries::make_faulty(*fault);
-    } else {
-        history::make_faulty(history::FAULTS.iter().find(|(word, _)| *word == name)?.1);
+        return Some(());
     }
-    Some(())
+    midpoint::CHOSEN
+        .choose(&midpoint::FAULTS, word)
+        .or_else(|| entries::CHOSEN.choose(&entries::FAULTS, word))
+        .or_else(|| history::CHOSEN.choose(&history::FAULTS, word))
 }
 
 fn main() -> ExitCode {

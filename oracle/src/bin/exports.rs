@@ -6,6 +6,7 @@ use std::process::ExitCode;
 
 use oracle::export::compare::{self, Outcome};
 use oracle::export::{FAULTS, Reader};
+use oracle::faults::named;
 use oracle::generate::exports;
 
 const USAGE: &str = "usage: exports [--seed S] [--sound K] [--damaged K] [--fault NAME] PROGRAM";
@@ -32,10 +33,7 @@ fn words() -> Option<Words> {
             "--seed" => w.seed = given.next()?.parse().ok()?,
             "--sound" => w.sound = given.next()?.parse().ok()?,
             "--damaged" => w.damaged = given.next()?.parse().ok()?,
-            "--fault" => {
-                let name = given.next()?;
-                w.reader.fault = Some(FAULTS.iter().find(|(word, _)| *word == name)?.1);
-            }
+            "--fault" => w.reader.fault = Some(named(&FAULTS, &given.next()?)?),
             _ if w.program.is_empty() && !word.starts_with('-') => w.program = word,
             _ => return None,
         }
