@@ -72,6 +72,23 @@ pub int-bounds :
 unfolding verdict_of
 int-bounds = refl
 
+-- row 5 (02, W9), Int with the log flag: 1 to 2,147,483,648 without a step passes, and nothing outside; low above high is 4, over 2^53 too
+pub ladders :
+    map (λ (b : ℤ × ℤ × Option ℤ). judged (ints b.0 b.1 true b.2))
+    ((pos 1, pos 2147483648, None)
+    ∷ (pos 7, pos 7, None)
+    ∷ (pos 0, pos 9, None)
+    ∷ (negsuc 0, pos 9, None)
+    ∷ (pos 1, pos 2147483649, None)
+    ∷ (pos 1, pos 9, Some (pos 1))
+    ∷ (pos 1, pos 9, Some (pos 0))
+    ∷ (pos 3, pos 2, None)
+    ∷ (pos 1, pos 9007199254740993, None)
+    ∷ [])
+    ≡ None ∷ None ∷ Some 5 ∷ Some 5 ∷ Some 5 ∷ Some 5 ∷ Some 5 ∷ Some 4 ∷ Some 4 ∷ []
+unfolding verdict_of
+ladders = refl
+
 -- row 6, Float, 0 .. 1: 0 of either sign, what is below it, NaN and the infinities fail
 pub float-steps :
     map (λ (s : Float). judged (floats (dec 0 0) (dec 1 0) false (Some s)))

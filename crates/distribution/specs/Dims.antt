@@ -17,6 +17,12 @@ choices (FloatD f) = 0
 choices (IntD k) = 0
 choices (Categorical k) = k.n_choices
 
+-- the log flag of an Int: where 4 to 7 pass it, a ladder (document 02, W9)
+abbrev pub is_ladder : Distribution → Bool
+is_ladder (FloatD f) = false
+is_ladder (IntD k) = k.log_scale
+is_ladder (Categorical k) = false
+
 abbrev pub is_continuous : DimensionInfo → Bool
 is_continuous d = continuous d.distribution
 

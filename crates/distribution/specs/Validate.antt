@@ -1,10 +1,11 @@
 -- Judging a distribution: rows 4 to 7 of document 01's table of refusals, a definition for each row, and the first that applies.
-use Rattle.std.specs.Prelude.{ℕ, ◌^◌, Bool, true, false, not, ◌||◌, cond, ltb, eqb, ℤ, pos, nat_abs, Float, Option, Some, None, Result, Ok, Err, ⊤}
+use Rattle.std.specs.Prelude.{ℕ, ◌^◌, Bool, true, false, not, ◌&&◌, ◌||◌, cond, ltb, eqb, ℤ, pos, nat_abs, Float, Option, Some, None, is_some, Result, Ok, Err, ⊤}
 use Rattle.std.specs.Int.Signed.{lt_z, le_z}
 use Rattle.std.specs.Float.{nan, inf, fin, binary64}
 use Rattle.std.specs.Float.Ieee.{round, neg, sub, div, lt, of_bits}
 use Rattle.distribution.specs.declared.Distribution.{Distribution}
 use Rattle.distribution.specs.declared.Distribution.TheVariants.{Float as FloatD, Int as IntD, Categorical}
+use Rattle.distribution.specs.declared.IntDistribution.{IntDistribution}
 use Rattle.distribution.specs.declared.Refusal.{Refusal}
 use Rattle.distribution.specs.declared.Refusal.TheVariants.{Bounds, LogScale, Step, Choices}
 use Rattle.distribution.specs.Refusals.{refusal_number}
@@ -25,6 +26,10 @@ float_limit = round binary64 false (10 ^ 300) 1
 -- "Int bounds and step at most 9,007,199,254,740,992 (2^53) in size"
 abbrev pub int_limit : ℕ
 int_limit = 2 ^ 53
+
+-- "high at most 2,147,483,648" (document 02, W9)
+abbrev pub ladder_limit : ℕ
+ladder_limit = 2147483648
 
 -- "Float quotient (high - low)/step over 4,294,967,295"
 unfoldable pub quotient_limit : Float
@@ -57,12 +62,16 @@ bounds_fail (FloatD d) = float_bounds_fail d.low d.high
 bounds_fail (IntD d) = int_bounds_fail d.low d.high
 bounds_fail (Categorical d) = false
 
--- ---- row 5: "log scale"
+-- ---- row 5, "log scale", as document 02 has it (W9): "5 now covers Float log and Int log with a step or with bounds outside these"
 
-abbrev pub on_log_scale : Distribution → Bool
-on_log_scale (FloatD d) = d.log_scale
-on_log_scale (IntD d) = d.log_scale
-on_log_scale (Categorical d) = false
+-- these: "low at least 1, high at most 2,147,483,648 and no step"
+unfoldable pub no_ladder : IntDistribution → Bool
+no_ladder d = is_some d.step || lt_z d.low (pos 1) || lt_z (pos ladder_limit) d.high
+
+abbrev pub log_fails : Distribution → Bool
+log_fails (FloatD d) = d.log_scale
+log_fails (IntD d) = d.log_scale && no_ladder d
+log_fails (Categorical d) = false
 
 -- ---- row 6: "step not finite, not above 0; Int step over 2^53; Float quotient (high - low)/step over 4,294,967,295"
 
@@ -100,10 +109,10 @@ abbrev pub refused_if : Bool → Refusal → Result ⊤ Refusal → Result ⊤ R
 refused_if applies r next = cond applies (Err r) next
 
 unfoldable pub verdict_of : Distribution → Result ⊤ Refusal
-unfolding float_bounds_fail int_bounds_fail float_step_fails int_step_fails
+unfolding float_bounds_fail int_bounds_fail no_ladder float_step_fails int_step_fails
 verdict_of d =
     refused_if (bounds_fail d) Bounds
-    (refused_if (on_log_scale d) LogScale
+    (refused_if (log_fails d) LogScale
     (refused_if (step_fails d) Step
     (refused_if (choices_fail d) Choices (Ok tt))))
 

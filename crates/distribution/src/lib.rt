@@ -2,7 +2,7 @@
 #![tactic(auto)]
 
 ghost use Rattle.std.specs.Prelude.{◌≡◌};
-ghost use Rattle.distribution.specs.Dims.{continuous, choices, blank_dim};
+ghost use Rattle.distribution.specs.Dims.{continuous, is_ladder, choices, blank_dim};
 ghost use Rattle.distribution.specs.Refusals.{refusal_number};
 
 pub mod validate;
@@ -112,6 +112,13 @@ impl Distribution {
         ensures { result ≡ continuous self }
     {
         !matches!(self, Distribution::Categorical(_))
+    }
+
+    // An Int with the log flag: where `validate` passes it, a ladder.
+    pub fn is_ladder(self) -> bool
+        ensures { result ≡ is_ladder self }
+    {
+        matches!(self, Distribution::Int(i) if i.log_scale)
     }
 
     // The number of choices; 0 where there are none.

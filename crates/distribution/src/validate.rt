@@ -1,14 +1,17 @@
 // Refusals 4 to 7: which distributions the sampler takes (`validate` of parameter.rs).
 ghost use Rattle.std.specs.Prelude.{◌≡◌};
-ghost use Rattle.distribution.specs.Validate.{is_finite, float_bound_fails, float_bounds_fail, int_bound_fails, int_bounds_fail, float_step_fails, int_step_fails, refused_if, verdict_of};
+ghost use Rattle.distribution.specs.Validate.{is_finite, float_bound_fails, float_bounds_fail, int_bound_fails, int_bounds_fail, float_step_fails, int_step_fails, log_fails, refused_if, verdict_of};
 
-use super::{CategoricalDistribution, Distribution, Refusal};
+use super::{CategoricalDistribution, Distribution, IntDistribution, Refusal};
 
 // The largest size of a Float bound.
 const FLOAT_LIMIT: f64 = 1e300;
 
 // The largest size of an Int bound, and the largest Int step: 2^53.
 const INT_LIMIT: i64 = 1 << 53;
+
+// The largest upper bound of an Int distribution with the log flag: 2^31.
+const LADDER_LIMIT: i64 = 1 << 31;
 
 // The most steps between the bounds of a Float distribution.
 const QUOTIENT_LIMIT: f64 = 4294967295.0;
@@ -63,6 +66,14 @@ fn int_bounds_fail(low: i64, high: i64) -> bool
     int_bound_fails(low) || int_bound_fails(high) || low > high
 }
 
+// Refusal 5 of an Int distribution: the log flag where there is no ladder (document 02, W9).
+#[tactic(auto, unfolding(crate::specs::Validate::no_ladder))]
+fn int_log_fails(d: IntDistribution) -> bool
+    ensures { result ≡ log_fails (Distribution.Int d) }
+{
+    d.log_scale && (d.step.is_some() || d.low < 1 || d.high > LADDER_LIMIT)
+}
+
 // Refusal 6 of an Int distribution: a step outside 1 to 2^53.
 #[tactic(auto, unfolding(crate::specs::Validate::int_step_fails))]
 fn int_step_fails(step: Option<i64>) -> bool
@@ -72,12 +83,12 @@ fn int_step_fails(step: Option<i64>) -> bool
 }
 
 // The first of refusals 4 to 6 whose test is met.
-fn verdict_by(bounds_fail: bool, log_scale: bool, step_fails: bool) -> Result<(), Refusal>
-    ensures { result ≡ refused_if bounds_fail Refusal.Bounds (refused_if log_scale Refusal.LogScale (refused_if step_fails Refusal.Step (Ok tt))) }
+fn verdict_by(bounds_fail: bool, log_fails: bool, step_fails: bool) -> Result<(), Refusal>
+    ensures { result ≡ refused_if bounds_fail Refusal.Bounds (refused_if log_fails Refusal.LogScale (refused_if step_fails Refusal.Step (Ok tt))) }
 {
     if bounds_fail {
         Err(Refusal::Bounds)
-    } else if log_scale {
+    } else if log_fails {
         Err(Refusal::LogScale)
     } else if step_fails {
         Err(Refusal::Step)
@@ -112,7 +123,7 @@ impl Distribution {
             ),
             Distribution::Int(i) => verdict_by(
                 int_bounds_fail(i.low, i.high),
-                i.log_scale,
+                int_log_fails(i),
                 int_step_fails(i.step),
             ),
             Distribution::Categorical(c) => validate_categorical(c),
