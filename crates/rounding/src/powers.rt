@@ -70,13 +70,12 @@ pub const POW2: [u64; 64] = [
     9223372036854775808,
 ];
 
-// The table as a whole: entry k is 2^k. It is written to the stack wherever it is read at a place that is not known in advance, so a
-// function that needs two entries reads both off one `table()`.
+// The table as a whole: entry k is 2^k. It is lent: an array that is handed on by value is written to the stack, entry by entry.
 #[tactic(auto, unfolding(crate::specs::Powers::powers_of_two))]
-pub fn table() -> [u64; 64]
-    ensures { T (powers_of_two result) }
+pub fn table() -> &'static [u64; 64]
+    ensures { T (powers_of_two result.now) }
 {
-    POW2
+    &POW2
 }
 
 // 2^k.
