@@ -1,0 +1,10 @@
+pub mod Entries
+pub mod Firsts
+pub mod Found
+pub mod Inner
+pub mod Octaves
+pub mod Positions
+pub mod Powers
+pub mod Rungs
+pub mod Scaled
+pub mod Search

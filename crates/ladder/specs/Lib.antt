@@ -1,0 +1,4 @@
+pub mod Inner
+pub mod Rungs
+pub mod Search
+pub mod Table

@@ -1,0 +1,3 @@
+pub mod Limbs
+pub mod Order
+pub mod Rule
