@@ -1,3 +1,5 @@
+pub mod Internal
+pub mod Ladders
 pub mod PlaceLaws
 pub mod Settings
 pub mod Steps

@@ -1,12 +1,14 @@
 -- Two facts of every setting that is made here: a random one costs exactly one draw, and a whole number from an entry lies in its bounds, by the clamp's three cases.
-use Rattle.std.proofs.Common.{◌≡◌, ◌+◌, Bool, true, false, cond, not, T, ℤ, ◌≤ℤ◌, sym, refl, subst}
+use Rattle.std.proofs.Common.{◌≡◌, ◌+◌, Bool, true, false, cond, not, T, ℤ, pos, ◌≤ℤ◌, sym, refl, subst}
 use lib.Signed.{lt_z, lt_z_no, ≤ℤ_refl}
 use lib.Ieee.{Float}
 use Rattle.rng_util.specs.declared.Gen.{Gen}
 use Rattle.rng_util.specs.Gen.{draw_of}
 use Rattle.distribution.specs.declared.Distribution.{Distribution}
 use Rattle.distribution.specs.declared.IntDistribution.{IntDistribution}
-use Rattle.common.specs.FromInternal.{clamp_z, on_step_z, from_int}
+use Rattle.common.specs.FromInternal.{clamp_z, on_step_z, from_ladder, from_int}
+use Rattle.ladder.specs.Inner.{inner_low, inner_high, position_of}
+use Rattle.ladder.specs.Rungs.{rung}
 use Rattle.common.specs.Random.{random_setting}
 
 -- `sample_random` makes exactly one draw, whatever the distribution
@@ -28,5 +30,9 @@ clamp_z-within z low high o = go (lt_z z low) refl (lt_z high z) refl
 
 -- the whole number that `from_internal` gives lies in low..high, for every double
 pub int-within : (v : Float) (d : IntDistribution) → d.low ≤ℤ d.high → (d.low ≤ℤ from_int v d) × (from_int v d ≤ℤ d.high)
-unfolding from_int
-int-within v d o = clamp_z-within (on_step_z d.step d.low v) d.low d.high o
+unfolding from_int from_ladder
+int-within v d o = go d.log_scale
+  where
+    go : (b : Bool) → let z = cond b (from_ladder v d) (clamp_z (on_step_z d.step d.low v) d.low d.high) in (d.low ≤ℤ z) × (z ≤ℤ d.high)
+    go true = clamp_z-within (pos (rung (position_of v (inner_low d.low) (inner_high d.high)))) d.low d.high o
+    go false = clamp_z-within (on_step_z d.step d.low v) d.low d.high o

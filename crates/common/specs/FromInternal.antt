@@ -1,6 +1,6 @@
 -- "`from_internal`, Float: with a step, k = round((v - low)/step), then low + k × step; then clamp. Int: with a step, k likewise,
 -- low + k × step, else round(v); then clamp" (document 01, "Mapping").
-use Rattle.std.specs.Prelude.{cond, ℤ, ◌+ℤ◌, ◌*ℤ◌, int_lt, Float, Option, Some, None}
+use Rattle.std.specs.Prelude.{cond, ℤ, pos, ◌+ℤ◌, ◌*ℤ◌, int_lt, Float, Option, Some, None}
 use Rattle.std.specs.Float.{binary64}
 use Rattle.std.specs.Float.Ieee.{add, sub, mul, div, of_int}
 use Rattle.distribution.specs.declared.FloatDistribution.{FloatDistribution}
@@ -11,6 +11,8 @@ use Rattle.distribution.specs.declared.ParamValue.{ParamValue}
 use Rattle.distribution.specs.declared.ParamValue.TheVariants as P
 use Rattle.rounding.specs.Round.{round_away, whole_z}
 use Rattle.rounding.specs.Clamp.{clamp_of}
+use Rattle.ladder.specs.Inner.{inner_low, inner_high, position_of}
+use Rattle.ladder.specs.Rungs.{rung}
 
 -- ---- Float: doubles, one rounding per operation, in the Rust's order
 
@@ -37,10 +39,15 @@ on_step_z (Some step) low v = low +ℤ whole_z (div binary64 (sub binary64 v (of
 unfoldable pub clamp_z : ℤ → ℤ → ℤ → ℤ
 clamp_z z low high = cond (int_lt z low) low (cond (int_lt high z) high z)
 
--- "then clamp"
+-- with the log flag, document 02, W9: "Decoding clamps the entry to the inner bounds, rounds to p, takes R(p) and clamps that to low and high"
+unfoldable pub from_ladder : Float → IntDistribution → ℤ
+unfolding clamp_z
+from_ladder v d = clamp_z (pos (rung (position_of v (inner_low d.low) (inner_high d.high)))) d.low d.high
+
+-- without it, "then clamp"
 unfoldable pub from_int : Float → IntDistribution → ℤ
-unfolding clamp_z on_step_z
-from_int v d = clamp_z (on_step_z d.step d.low v) d.low d.high
+unfolding clamp_z on_step_z from_ladder
+from_int v d = cond d.log_scale (from_ladder v d) (clamp_z (on_step_z d.step d.low v) d.low d.high)
 
 -- ---- a categorical dimension has no entry (the Rust's `unreachable!`): choice 0 stands there
 

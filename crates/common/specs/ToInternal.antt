@@ -7,7 +7,8 @@ use Rattle.distribution.specs.declared.Distribution.{Distribution}
 use Rattle.distribution.specs.declared.Distribution.TheVariants as D
 use Rattle.distribution.specs.declared.ParamValue.{ParamValue}
 use Rattle.distribution.specs.declared.ParamValue.TheVariants as P
-use Rattle.distribution.specs.declared.Refusal.TheVariants.{Bounds}
+use Rattle.distribution.specs.declared.Refusal.TheVariants.{Bounds, LogScale}
+use Rattle.distribution.specs.Dims.{is_ladder}
 use Rattle.distribution.specs.Refusals.{refusal_number}
 use Rattle.distribution.specs.Validate.{verdict_of, int_bound_fails, judged}
 use Rattle.common.specs.Bounds.{zero_f}
@@ -31,10 +32,10 @@ as_double (P.Int z) (D.Int d) = of_int binary64 z
 as_double (P.Int z) (D.Categorical d) = zero_f
 as_double (P.Categorical k) d = zero_f
 
--- the refusals first, then the double
+-- the refusals first, then the double; W9: "`to_internal` still gives 5 for any log flag"
 abbrev pub internal_of : Result ⊤ Refusal → ParamValue → Distribution → Result Float Refusal
 internal_of (Err r) value d = Err r
-internal_of (Ok tt) value d = cond (setting_fails value) (Err Bounds) (Ok (as_double value d))
+internal_of (Ok tt) value d = cond (is_ladder d) (Err LogScale) (cond (setting_fails value) (Err Bounds) (Ok (as_double value d)))
 
 unfoldable pub to_internal : ParamValue → Distribution → Result Float Refusal
 unfolding verdict_of setting_fails as_double
@@ -47,12 +48,12 @@ abbrev pub internal_refusal : Result Float Refusal → Option ℕ
 internal_refusal (Ok x) = None
 internal_refusal (Err r) = Some (refusal_number r)
 
--- the distribution's number comes first; then 4, where the setting fails
-abbrev pub then_setting : Option ℕ → Bool → Option ℕ
-then_setting (Some n) fails = Some n
-then_setting None fails = cond fails (Some 4) None
+-- the distribution's number comes first; then 5, on a ladder; then 4, where the setting fails
+abbrev pub then_setting : Option ℕ → Bool → Bool → Option ℕ
+then_setting (Some n) ladder fails = Some n
+then_setting None ladder fails = cond ladder (Some 5) (cond fails (Some 4) None)
 
--- "4 to 7 judge the distribution, then 4 an Int setting over 2^53 in size"
+-- "4 to 7 judge the distribution, then 4 an Int setting over 2^53 in size", and before it 5 for a ladder
 unfoldable pub setting_refusal : ParamValue → Distribution → Option ℕ
 unfolding verdict_of setting_fails
-setting_refusal value d = then_setting (judged d) (setting_fails value)
+setting_refusal value d = then_setting (judged d) (is_ladder d) (setting_fails value)

@@ -46,10 +46,7 @@ pub fn internal_bounds(d: Distribution) -> Bounds
             low: f.low,
             high: f.high,
         },
-        Distribution::Int(i) => Bounds {
-            low: std::num::nearest_i64_to_f64(i.low),
-            high: std::num::nearest_i64_to_f64(i.high),
-        },
+        Distribution::Int(i) => int::bounds(i),
         Distribution::Categorical(_) => Bounds::none(),
     }
 }
@@ -92,6 +89,9 @@ pub fn to_internal(value: ParamValue, d: Distribution) -> Result<f64, Refusal>
     ensures { (result ≡ to_internal value d) × (internal_refusal result ≡ setting_refusal value d) }
 {
     d.validate()?;
+    if d.is_ladder() {
+        return Err(Refusal::LogScale);
+    }
     if setting_fails(value) {
         return Err(Refusal::Bounds);
     }

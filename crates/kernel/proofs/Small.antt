@@ -33,8 +33,9 @@ use Rattle.distribution.specs.Good.{Good, GoodBound}
 use Rattle.distribution.specs.declared.Distribution.{Distribution}
 use Rattle.distribution.specs.declared.Distribution.TheVariants.{Float as FloatD, Int as IntD, Categorical}
 use Rattle.distribution.proofs.Flags.{neither}
-use Rattle.common.specs.Bounds.{bounds}
+use Rattle.common.specs.Bounds.{ladder_bounds, bounds}
 use Rattle.common.specs.declared.Bounds.{Bounds}
+use Rattle.common.proofs.Ladders.{inner-few}
 use Rattle.candidates.specs.Random.{random_entry}
 use Rattle.evolution.specs.Mutant.{mutant_entry}
 use Rattle.evolution.specs.Cross.{clamped, halfway, drawn_in, judged_entry, cross_entry}
@@ -77,10 +78,17 @@ bound-small x g = between-limits most float_limit x (at-value most float_limit l
 int_small : (z : ℤ) → nat_abs z ≤ int_limit → Within most (of_int binary64 z)
 int_small z h = wider (1 * 2 ^ 53) most (of_int binary64 z) (unfold most in leb→le (1 * 2 ^ 53) (1681218273811815 * 2 ^ 946) tt) (int-within (1 * 2 ^ 53) z (cap 1 53 (lit< tt) (lit< tt)) h)
 
+position-small : (n : ℕ) → n ≤ 7936 → Within most (of_int binary64 (pos n))
+position-small n h = int_small (pos n) (omega arith)
+
 pub bounds-small : (d : Distribution) → Good d → SmallBounds (bounds d)
 unfolding of_bits of_fields odd
 bounds-small (FloatD d) g = (bound-small d.low g.good_low, bound-small d.high g.good_high)
-bounds-small (IntD d) g = (int_small d.low g.small_low, int_small d.high g.small_high)
+bounds-small (IntD d) g = go d.log_scale
+  where
+    go : (b : Bool) → SmallBounds (cond b (ladder_bounds d) (record { low = of_int binary64 d.low; high = of_int binary64 d.high }))
+    go true = (position-small _ (inner-few d).0, position-small _ (inner-few d).1)
+    go false = (int_small d.low g.small_low, int_small d.high g.small_high)
 bounds-small (Categorical d) g = (zero-le, zero-le)
 
 -- ---- entries of a sound state: none is "over 4e300 in size"

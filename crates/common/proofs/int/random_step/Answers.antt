@@ -1,7 +1,7 @@
 -- `random_step` meets its contract: no number leaves the range, so the machine's numbers are the exact ones.
 use Rattle.std.proofs.Common.{arith}
 use Rattle.std.proofs.lemmas.Int.{ints, to_z-of_z}
-use Rattle.common.specs.Random.{random_int}
+use Rattle.common.specs.Random.{random_on_step}
 use Rattle.common.proofs.Strides.{strides}
 use Rattle.common.proofs.int.random_step.Goals as goal
 
@@ -21,7 +21,7 @@ overflow_add-result c =
     grind (arith, ints, to_z-of_z)
 
 pub returns : goal.returns
-unfolding random_int
+unfolding random_on_step
 returns c =
     let s = strides c.args.d.low c.args.d.high c.args.step c.args.output c.ranges.step c.requires.low_le_high c.requires.pos_bound in
     grind (arith, ints, to_z-of_z)
