@@ -3,7 +3,7 @@
 use Rattle.std.specs.Prelude.{Result, Ok, Err, is_ok}
 use Prim.Native.Nat.{ℕ}
 use native.Mathlib.Omega.{arith}
-use mathlib.Core.Path.{◌≡◌, refl, sym, ap, ◌∙◌}
+use mathlib.Core.Path.{◌≡◌, refl, sym, ap, subst, ◌∙◌}
 use mathlib.Core.Bool.{Bool, true, false, cond, true≢false}
 use mathlib.Core.List.{List, [], ◌∷◌, map}
 use mir.Val.{Val}
@@ -18,7 +18,8 @@ use Rattle.saved.specs.Save.{save_of, saved_in}
 use Rattle.saved.specs.declared.FileRefusal.TheVariants.{BadContent}
 use Rattle.saved.specs.declared.Restored.{Restored}
 use Rattle.saved.proofs.Contracts.{past-untouched, refused-untouched}
-use Rattle.saved.proofs.Place.{midpoint-unsaved, read-clamp}
+use Rattle.saved.specs.Ladder.{HasLadder, OtherWordsFile}
+use Rattle.saved.proofs.Place.{midpoint-unsaved, ladder-unsaved, ladder-read, read-clamp, read-no-ladder}
 use Rattle.saved.proofs.Survives.{survives}
 use Rattle.edge.specs.contracts.flat.DeState as F
 use Rattle.edge.specs.Answers.{settled_of, told}
@@ -168,17 +169,32 @@ save-refuses f file e = go (known_state f) (save_of (open_of f) (length file)) r
 pub library-refuses : (f g : DeState) (file bytes : List ℕ) → ((restore_answer bytes).kind ≡ 0 → restore_state g bytes ≡ g) × ((save_answer f (length file)).kind ≡ 0 → save_file f file ≡ file)
 library-refuses f g file bytes = (restore-refuses g bytes, save-refuses f file)
 
--- "the saved file has no place for midpoint yet" (document 02, W7): a save call of such a memory is refused by 13 and writes nothing, whatever file is lent
-pub library-midpoint-unsaved : (f : DeState) (file : List ℕ) → f.setup.bounds_rule ≡ 1 → (save_answer f (length file) ≡ refused_file BadContent) × (save_file f file ≡ file)
-unfolding save_answer save_file setup_of open_with
-library-midpoint-unsaved f file e = go (known_state f) (midpoint-unsaved (open_of f) file (ap rule_of e))
+-- what the writer refuses by 13, a save call does
+unsaved : (f : DeState) (file : List ℕ) → (save_of (open_of f) (length file) ≡ Err BadContent) × (saved_in (open_of f) file ≡ file)
+    → (save_answer f (length file) ≡ refused_file BadContent) × (save_file f file ≡ file)
+unfolding save_answer save_file
+unsaved f file = go (known_state f)
   where
     go : (b : Bool) → (save_of (open_of f) (length file) ≡ Err BadContent) × (saved_in (open_of f) file ≡ file)
         → (cond b (saved_answer (save_of (open_of f) (length file))) (refused_file BadContent) ≡ refused_file BadContent) × (cond b (saved_in (open_of f) file) file ≡ file)
     go true u = (ap saved_answer u.0, u.1)
     go false u = (refl, refl)
 
--- and what a restore call gives has clamp
+-- "the saved file has no place for midpoint yet" (document 02, W7): a save call of such a memory is refused by 13 and writes nothing, whatever file is lent
+pub library-midpoint-unsaved : (f : DeState) (file : List ℕ) → f.setup.bounds_rule ≡ 1 → (save_answer f (length file) ≡ refused_file BadContent) × (save_file f file ≡ file)
+unfolding setup_of open_with
+library-midpoint-unsaved f file e = unsaved f file (midpoint-unsaved (open_of f) file (ap rule_of e))
+
+-- "the saved file's writer and reader give 13 for a ladder" (document 02, W9): likewise of a memory with a ladder among its dimensions,
+pub library-ladder-unsaved : (f : DeState) (file : List ℕ) → HasLadder (open_of f) → (save_answer f (length file) ≡ refused_file BadContent) × (save_file f file ≡ file)
+library-ladder-unsaved f file l = unsaved f file (ladder-unsaved (open_of f) file l)
+
+-- and a restore call of a file that says one gives 13 and leaves the memory as it was
+pub library-ladder-read : (g : DeState) (bytes : List ℕ) → OtherWordsFile bytes → (restore_answer bytes ≡ refused_file BadContent) × (restore_state g bytes ≡ g)
+unfolding restore_answer restore_state
+library-ladder-read g bytes l = (ap restored_answer (ladder-read bytes l), ap (stored_over g) (ladder-read bytes l))
+
+-- what a restore call gives has clamp
 pub library-read-clamp : (g : DeState) (bytes : List ℕ) → (restore_answer bytes).kind ≡ 2 → (restore_state g bytes).setup.bounds_rule ≡ 0
 unfolding restore_answer restore_state flat_of flat_setup
 library-read-clamp g bytes e = go (state_read bytes) refl e
@@ -186,3 +202,12 @@ library-read-clamp g bytes e = go (state_read bytes) refl e
     go : (r : Result State FileRefusal) → state_read bytes ≡ r → (restored_answer r).kind ≡ 2 → (stored_over g r).setup.bounds_rule ≡ 0
     go (Ok s) q w = ap rule_number (read-clamp bytes s q)
     go (Err why) q w = absurd (omega arith)
+
+-- and no ladder
+pub library-read-no-ladder : (g : DeState) (bytes : List ℕ) → (restore_answer bytes).kind ≡ 2 → HasLadder (open_of (restore_state g bytes)) → ⊥
+unfolding restore_answer restore_state
+library-read-no-ladder g bytes e = go (state_read bytes) refl e
+  where
+    go : (r : Result State FileRefusal) → state_read bytes ≡ r → (restored_answer r).kind ≡ 2 → HasLadder (open_of (stored_over g r)) → ⊥
+    go (Ok s) q w l = read-no-ladder bytes s q (subst HasLadder (lossless s) l)
+    go (Err why) q w l = absurd (omega arith)

@@ -36,7 +36,7 @@ use Rattle.std.proofs.lemmas.Bool.{and_parts}
 use Rattle.state.proofs.Floats.{zero-true}
 use Rattle.state.proofs.Tidy.{padded}
 use Rattle.kinds.specs.Opened.{row}
-use Rattle.kinds.specs.Rows.{double_word, word_double, whole_word, word_whole, word_strategy, flag, word_option, rule_has_place, has_place, setup_words, setup_in, float_words, int_words, dim_words, dim_in, trial_words, trial_in, vector_words, entries_in, choices_in, candidate_words, candidate_in, member_words, member_in}
+use Rattle.kinds.specs.Rows.{double_word, word_double, whole_word, word_whole, word_strategy, flag, word_option, rule_has_place, setup_has_place, setup_words, setup_in, float_words, int_words, dim_words, dim_in, trial_words, trial_in, vector_words, entries_in, choices_in, candidate_words, candidate_in, member_words, member_in}
 use Rattle.std.specs.List.{flat_map}
 use Rattle.kinds.specs.Typed.{Double, Whole, TypedCandidate}
 
@@ -59,7 +59,7 @@ pub rule-back : (r : BoundsRule) → rule_has_place r ≡ true → Clamp ≡ r
 rule-back Clamp e = refl
 rule-back Midpoint e = absurd (true≢false (sym e))
 
-pub setup-back : (S : Setup) (rest : List ℕ) → has_place S ≡ true → Double S.mutation_factor → Double S.crossover_rate → setup_in (setup_words S ++ rest) ≡ S
+pub setup-back : (S : Setup) (rest : List ℕ) → setup_has_place S ≡ true → Double S.mutation_factor → Double S.crossover_rate → setup_in (setup_words S ++ rest) ≡ S
 unfolding setup_in setup_words
 setup-back S rest h f r =
     λ i. record {

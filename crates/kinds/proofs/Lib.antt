@@ -4,6 +4,8 @@ pub mod Entries
 pub mod EntriesIn
 pub mod Few
 pub mod Lent
+pub mod Place
+pub mod RowAt
 pub mod Saving
 pub mod Sectioned
 pub mod Small

@@ -1,5 +1,5 @@
--- A sound state comes back from its own records, if these have a place for its set-up.
-use Rattle.std.specs.Prelude.{Option, Some, None, is_none}
+-- A sound state comes back from its own records, if these have a place for all of it.
+use Rattle.std.specs.Prelude.{Option, Some, None, is_none, not}
 use Prim.Native.Nat.{ℕ, ◌+◌, ◌-◌, ◌%◌, ◌^◌, ◌≤◌, min, max}
 use native.Mathlib.Omega.{arith}
 use mathlib.Core.Bool.{Bool, true, false, cond, true≢false}
@@ -15,6 +15,7 @@ use Rattle.distribution.specs.declared.DimensionInfo.{DimensionInfo}
 use Rattle.distribution.specs.declared.Distribution.{Distribution}
 use Rattle.distribution.specs.declared.Distribution.TheVariants as D
 use Rattle.distribution.proofs.Meaning.{judged-good}
+use Rattle.distribution.specs.Dims.{is_ladder}
 use Rattle.ledger.specs.State.{cap}
 use Rattle.ledger.specs.Words.{All, all}
 use Rattle.candidates.specs.Candidate.{blank_candidate}
@@ -35,17 +36,24 @@ use Rattle.state.proofs.Measured.{arrays-of}
 use Rattle.state.proofs.Whole.{of-sound, few-candidates, few-parents}
 use Rattle.records.proofs.Lists.{all_of, all_take}
 use Rattle.kinds.specs.Opened.{row, dim_at, state_in}
-use Rattle.kinds.specs.Rows.{flag, has_place, setup_words, dim_words, dim_in, trial_words, trial_in, candidate_words, candidate_in, member_words, member_in}
+use Rattle.kinds.specs.Rows.{flag, setup_words, dim_words, dim_in, trial_words, trial_in, candidate_words, candidate_in, member_words, member_in}
 use Rattle.std.specs.List.{flat_map}
-use Rattle.kinds.specs.Kinds.{dims_of, count_words, dims_words, trials_words, parents_words, candidates_words}
+use Rattle.kinds.specs.Kinds.{dims_of, has_place, count_words, dims_words, trials_words, parents_words, candidates_words}
 use Rattle.kinds.specs.Typed.{Double, TypedDistribution, TypedState, TypedCandidate}
 use Rattle.kinds.proofs.Back.{Sayable, Returns, option_back, setup-back, rows_back, dim-returns, trial-returns, candidate-returns, member-returns}
+use Rattle.kinds.proofs.Place.{setup-placed, dims-placed}
 use Rattle.kinds.proofs.Typed.{measured-of}
 
-sayable : (d : Distribution) → TypedDistribution d → Good d → Sayable d
-sayable (D.Float d) t g = (t.0, t.1, g.not_log, t.2)
-sayable (D.Int d) t g = (t.0, t.1, g.not_log, t.2)
-sayable (D.Categorical d) t g = tt
+-- a flag that is not set
+not-set : (b : Bool) → not b ≡ true → b ≡ false
+not-set false e = refl
+not-set true e = absurd (true≢false (sym e))
+
+-- a good Float has no log flag, and an Int that has a place has none
+sayable : (d : Distribution) → TypedDistribution d → Good d → not (is_ladder d) ≡ true → Sayable d
+sayable (D.Float d) t g h = (t.0, t.1, g.not_log, t.2)
+sayable (D.Int d) t g h = (t.0, t.1, not-set d.log_scale h, t.2)
+sayable (D.Categorical d) t g h = tt
 
 -- ---- lists
 
@@ -69,7 +77,7 @@ small-back n h = omega arith
 
 -- ---- the state
 
-module _ (s : State) (e : sound_state s ≡ true) (p : TypedState s) where
+module _ (s : State) (e : sound_state s ≡ true) (p : TypedState s) (h : has_place s ≡ true) where
   parts : Parts s
   parts = of-sound s (arrays-of (measured-of s p)) e
 
@@ -95,7 +103,8 @@ module _ (s : State) (e : sound_state s ≡ true) (p : TypedState s) where
   pub dims-return : All (Returns dim_words dim_in 5) (dims_of s)
   dims-return d m =
       dim-returns d (sayable d.distribution (all_take (λ (d : DimensionInfo). TypedDistribution d.distribution) s.n_dims s.dims p.dims d m)
-      (judged-good d.distribution (none_of (judged d.distribution) (in_use passes is_blank_dim s.n_dims s.dims parts.dims d m))))
+      (judged-good d.distribution (none_of (judged d.distribution) (in_use passes is_blank_dim s.n_dims s.dims parts.dims d m)))
+      (dims-placed s h d m))
 
   pub candidates-return : All (Returns (candidate_words (dims_of s)) (candidate_in (dims_of s)) (length (dims_of s))) (take (candidate_count s) s.candidates)
   candidates-return y m =
@@ -164,12 +173,12 @@ module _ (s : State) (e : sound_state s ≡ true) (p : TypedState s) where
   parents-whole = ap (pad_to 160 blank_member) (sym (back member_of parent_of (take (parent_count s) s.parents) (λ x. refl))) ∙ ap (λ (t : State). t.parents) (sym whole)
 
   -- THE STATE COMES BACK from the tables of its words
-  pub state-back : has_place s.setup ≡ true → state_in (in_table (setup_words s.setup)) (in_table (count_words s)) (in_table (dims_words s)) (in_table (trials_words s)) (in_table (parents_words s)) (in_table (candidates_words s)) ≡ s
+  pub state-back : state_in (in_table (setup_words s.setup)) (in_table (count_words s)) (in_table (dims_words s)) (in_table (trials_words s)) (in_table (parents_words s)) (in_table (candidates_words s)) ≡ s
   unfolding state_in count_words
-  state-back h =
+  state-back =
       let closed = small-back s.closed (measured-of s p).closed in
       λ i. record {
-        setup = setup-back s.setup (replicate (3600 - length (setup_words s.setup)) 0) h p.factor p.rate i;
+        setup = setup-back s.setup (replicate (3600 - length (setup_words s.setup)) 0) (setup-placed s h) p.factor p.rate i;
         first = option_back s.first i;
         discovered = flag-back s.discovered i;
         n = s.n;

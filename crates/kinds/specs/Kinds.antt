@@ -1,10 +1,10 @@
 -- The six kinds of records, and the words of each: docs/SAVED.md, "The six kinds".
-use Rattle.std.specs.Prelude.{ℕ, ◌≤◌, List, [], ◌∷◌, cond, take, eqb, is_some, unwrap_or}
-use Rattle.std.specs.List.{flat_map}
+use Rattle.std.specs.Prelude.{ℕ, ◌≤◌, Bool, ◌&&◌, List, [], ◌∷◌, cond, take, eqb, is_some, unwrap_or}
+use Rattle.std.specs.List.{flat_map, list_all}
 use Rattle.distribution.specs.declared.DimensionInfo.{DimensionInfo}
 use Rattle.state.specs.View.{candidate_count, parent_count}
 use Rattle.state.specs.declared.State.{State}
-use Rattle.kinds.specs.Rows.{candidate_words, dim_words, flag, member_words, setup_words, trial_words}
+use Rattle.kinds.specs.Rows.{candidate_words, dim_has_place, dim_words, flag, member_words, setup_has_place, setup_words, trial_words}
 use Rattle.kinds.specs.declared.kind.Kind.{Kind}
 use Rattle.kinds.specs.declared.kind.Kind.TheVariants as K
 
@@ -58,6 +58,10 @@ kind_words s kind =
     (cond (eqb kind 4) (trials_words s)
     (cond (eqb kind 5) (parents_words s)
     (cond (eqb kind 6) (candidates_words s) [])))))
+
+-- whether the words hold all of a state: midpoint and ladders have no place
+abbrev pub has_place : State → Bool
+has_place s = setup_has_place s.setup && list_all dim_has_place (dims_of s)
 
 -- the counts of a state are places of its arrays: so it is of every sound state
 pub record Roomy (s : State) : Type 0 where

@@ -1,4 +1,5 @@
 pub mod Rows
 pub mod Kinds
 pub mod Opened
+pub mod Ladder
 pub mod Typed

@@ -1,5 +1,5 @@
 -- The words of each part of a state, and each part from its words. A double is its bit pattern; a whole number has 2^63 added to it.
-use Rattle.std.specs.Prelude.{ℕ, ◌^◌, ◌%◌, Bool, true, false, cond, List, [], ◌∷◌, ◌++◌, eqb, Float, ℤ, length, drop, get_or, Option, Some, None, is_some, unwrap_or, option_map}
+use Rattle.std.specs.Prelude.{ℕ, ◌^◌, ◌%◌, Bool, true, false, not, cond, List, [], ◌∷◌, ◌++◌, eqb, Float, ℤ, length, drop, get_or, Option, Some, None, is_some, unwrap_or, option_map}
 use Rattle.std.specs.Option.{option_map_or}
 use Rattle.std.specs.Float.{nan, binary64}
 use Rattle.std.specs.Float.Ieee.{to_bits, of_bits}
@@ -10,6 +10,7 @@ use Rattle.distribution.specs.declared.FloatDistribution.{FloatDistribution}
 use Rattle.distribution.specs.declared.IntDistribution.{IntDistribution}
 use Rattle.distribution.specs.declared.Distribution.TheVariants as D
 use Rattle.common.specs.Places.{place_of, at_place}
+use Rattle.distribution.specs.Dims.{is_ladder}
 use Rattle.candidates.specs.Candidate.{packed}
 use Rattle.candidates.specs.declared.Candidate.{Candidate}
 use Rattle.evolution.specs.Strategy.{strategy_number, strategy_from}
@@ -61,8 +62,8 @@ abbrev pub rule_has_place : BoundsRule → Bool
 rule_has_place Clamp = true
 rule_has_place Midpoint = false
 
-abbrev pub has_place : Setup → Bool
-has_place S = rule_has_place S.bounds_rule
+abbrev pub setup_has_place : Setup → Bool
+setup_has_place S = rule_has_place S.bounds_rule
 
 unfoldable pub setup_in : List ℕ → Setup
 setup_in ws =
@@ -76,7 +77,10 @@ setup_in ws =
     }
 
 -- ---- a dimension: 1 float, low, high, whether it has a step, the step; 2 int, likewise; 3 categorical, its number of choices. Unused words are 0.
--- There is no place for a log flag: no sound state has one.
+
+-- "The saved file's writer and reader give 13 for a ladder" (document 02, W9): no word holds the log flag, and what is read has none
+abbrev pub dim_has_place : DimensionInfo → Bool
+dim_has_place d = not (is_ladder d.distribution)
 
 abbrev pub float_words : Float → Float → Option Float → List ℕ
 float_words low high step = 1 ∷ double_word low ∷ double_word high ∷ flag (is_some step) ∷ option_map_or double_word step 0 ∷ []

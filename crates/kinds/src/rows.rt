@@ -1,6 +1,6 @@
 // The words of each part of a state, and each part from its words.
 ghost use Rattle.std.specs.Prelude.{◌≡◌, ◌≤◌, length};
-ghost use Rattle.kinds.specs.Rows.{word_option, has_place, setup_words, setup_in, dim_words, dim_in, trial_words, trial_in};
+ghost use Rattle.kinds.specs.Rows.{word_option, setup_has_place, dim_has_place, setup_words, setup_in, dim_words, dim_in, trial_words, trial_in};
 
 use common::places::{at_place, place};
 use distribution::{
@@ -18,8 +18,8 @@ pub fn word_option(flag: u64, w: u64) -> Option<u64>
 }
 
 // Whether the six words hold the whole set-up: none holds the bounds rule, and what is read has clamp.
-pub fn has_place(s: Setup) -> bool
-    ensures { result ≡ has_place s }
+pub fn setup_has_place(s: Setup) -> bool
+    ensures { result ≡ setup_has_place s }
 {
     match s.bounds_rule {
         BoundsRule::Clamp => true,
@@ -60,6 +60,14 @@ pub fn setup_in(row: &[u64]) -> Setup
 
 // How many words a dimension has.
 pub const DIM_WIDTH: usize = 5;
+
+// Whether the five words hold the whole dimension: none holds the log flag, and what is read has none. Of the sound dimensions a ladder
+// alone has it.
+pub fn dim_has_place(d: &DimensionInfo) -> bool
+    ensures { result ≡ dim_has_place d.now }
+{
+    !d.distribution.is_ladder()
+}
 
 // How many words an open trial has.
 pub const TRIAL_WIDTH: usize = 2;

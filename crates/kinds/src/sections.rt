@@ -1,17 +1,30 @@
 // The words of each kind.
 ghost use Rattle.std.specs.Prelude.{◌≡◌, ◌+◌, ◌*◌, ◌≤◌, ◌++◌, length};
-ghost use Rattle.kinds.specs.Rows.{dim_words, trial_words, candidate_words, member_words};
-ghost use Rattle.std.specs.List.{flat_map};
-ghost use Rattle.kinds.specs.Kinds.{count_words, kind_number, kind_words, Roomy};
+ghost use Rattle.kinds.specs.Rows.{dim_has_place, dim_words, trial_words, candidate_words, member_words};
+ghost use Rattle.std.specs.List.{flat_map, list_all};
+ghost use Rattle.kinds.specs.Kinds.{count_words, has_place, kind_number, kind_words, Roomy};
 
 use crate::kind::Kind;
-use crate::rows::{dim_row, setup_row, trial_row};
+use crate::rows::{dim_has_place, dim_row, setup_has_place, setup_row, trial_row};
 use crate::section::Section;
 use crate::vectors::{put_candidate, put_member};
 use candidates::Candidate;
 use distribution::DimensionInfo;
 use evolution::Member;
 use state::{State, TrialProgress};
+
+fn dims_have_place(dims: &[DimensionInfo]) -> bool
+    ensures { result ≡ list_all dim_has_place dims.now }
+{
+    dims.iter().all(|d| dim_has_place(d))
+}
+
+// Whether the words hold the whole state.
+pub fn has_place(s: &State) -> bool
+    ensures { result ≡ has_place s.now }
+{
+    setup_has_place(s.setup) && dims_have_place(s.dims())
+}
 
 #[tactic(auto, unfolding(crate::specs::Kinds::count_words))]
 fn count_row(s: &State) -> [u64; 10]

@@ -1,4 +1,4 @@
--- A sound plain state of the machine's numbers, laid out in the code's arrays, can be saved, if its set-up has clamp.
+-- A sound plain state of the machine's numbers, laid out in the code's arrays, can be saved, if it has a place in a file.
 use Rattle.std.specs.Prelude.{Option, Some, None, is_ok, unwrap_or}
 use Prim.Native.Nat.{ℕ, suc, ◌^◌, ◌≤◌, ◌<◌}
 use native.Mathlib.Omega.{arith}
@@ -44,7 +44,7 @@ use Rattle.std.proofs.lemmas.Bool.{and_parts}
 use Rattle.state.proofs.Laid.{slots-few, trials-few, candidates-few, parents-few, laid-sound}
 use Rattle.state.proofs.Measured.{Measured}
 use Rattle.records.proofs.Lists.{all-padded, all_of}
-use Rattle.kinds.specs.Rows.{has_place}
+use Rattle.kinds.specs.Kinds.{has_place}
 use Rattle.kinds.specs.Typed.{Double, Word, Choices, TypedSetup, TypedCandidate, TypedState, TypedNumbers}
 use Rattle.kinds.proofs.Decoded.{blank-typed}
 use Rattle.kinds.proofs.Typed.{sized_of}
@@ -207,6 +207,5 @@ module _ (S : Setup) (ok : is_ok (setup_verdict S) ≡ true) (typed : TypedSetup
             (all-mapped TypedTrial progress_of m.trials (λ t k. (f.trials t k, (let h = next-few m.size refl t k in omega arith)))) (omega arith, omega arith);
       }
 
-  pub laid-savable : has_place S ≡ true → Savable s
-  unfolding laid
+  pub laid-savable : has_place s ≡ true → Savable s
   laid-savable h = typed-savable s (laid-sound S m v ok de-laws) h laid-typed laid-numbers

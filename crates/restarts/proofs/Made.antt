@@ -6,7 +6,7 @@ use mathlib.Core.Bool.{Bool, true, false, cond}
 use mathlib.Core.List.Memᴰ
 use mathlib.Core.List.{List, [], ◌∷◌, map}
 use lib.Dec.{eqb}
-use lib.Ieee.{Float, nan, binary64, add, sub, mul, lt}
+use lib.Ieee.{Float, nan, binary64, add, sub, mul, lt, of_int}
 use lib.Ieee.Bits.{of_bits-fits}
 use lib.Ieee.Fits.{add-fits, div-fits, nan-fits, of_int-fits}
 use lib.ListN.{length, get_or}
@@ -21,7 +21,7 @@ use Rattle.distribution.specs.Dims.{is_continuous}
 use Rattle.distribution.specs.declared.DimensionInfo.{DimensionInfo}
 use Rattle.distribution.specs.declared.Distribution.{Distribution}
 use Rattle.distribution.specs.declared.Distribution.TheVariants as D
-use Rattle.common.specs.Bounds.{zero_f, no_bounds, bounds, bounds_of}
+use Rattle.common.specs.Bounds.{zero_f, ladder_bounds, no_bounds, bounds, bounds_of}
 use Rattle.common.specs.Random.{random_setting}
 use Rattle.common.specs.declared.Bounds.{Bounds}
 use Rattle.ledger.specs.Words.{All}
@@ -157,7 +157,11 @@ DoubleBounds b = Double b.low × Double b.high
 
 bounds-double : (d : Distribution) → TypedDistribution d → DoubleBounds (bounds d)
 bounds-double (D.Float d) t = (t.0, t.1)
-bounds-double (D.Int d) t = (of_int-fits binary64 d.low, of_int-fits binary64 d.high)
+bounds-double (D.Int d) t = go d.log_scale
+  where
+    go : (b : Bool) → DoubleBounds (cond b (ladder_bounds d) (record { low = of_int binary64 d.low; high = of_int binary64 d.high }))
+    go true = (of_int-fits binary64 _, of_int-fits binary64 _)
+    go false = (of_int-fits binary64 d.low, of_int-fits binary64 d.high)
 bounds-double (D.Categorical d) t = (of_bits-fits binary64 0, of_bits-fits binary64 0)
 
 abbrev pub TypedDim : DimensionInfo → Type 0

@@ -2,6 +2,7 @@
 -- said of a list of calls, the share and the least result among it, is said of it. The idea: what the gateway holds and which calls count go along, event by event (`Agree`).
 use Rattle.std.specs.Prelude.{Option, Some, None, unwrap_or, slice_get}
 use Prim.Native.Nat.{ℕ, zero, suc}
+use mathlib.Core.Bool.{Bool, true, false, cond}
 use mathlib.Core.List.Memᴰ
 use mathlib.Core.List.{List, [], ◌∷◌, ◌++◌}
 use mathlib.Core.Path.{◌≡◌, refl, sym, ap, ◌∙◌, subst}
@@ -13,8 +14,9 @@ use Rattle.ledger.specs.Sampler.{Sampler}
 use Rattle.ledger.proofs.Lists.{all_nil, all_snoc}
 use Rattle.restarts.specs.Restart.{more, Event, call, save, reboot, Counted, counted_after, surviving, led_to, OnGateway, held_after, state_after}
 
-module _ (Kept Call : Type 0) where
-  counted-more : (es : List (Event Kept Call)) (k : Counted Kept Call) (c : Call) → (counted_after Kept Call k (es ++ (call c ∷ []))).calls ≡ (counted_after Kept Call k es).calls ++ (c ∷ [])
+module _ (Kept Call : Type 0) (makes : List Call → List ℕ → Bool) where
+  counted-more : (es : List (Event Kept Call)) (k : Counted Kept Call) (c : Call)
+      → (counted_after Kept Call makes k (es ++ (call c ∷ []))).calls ≡ (counted_after Kept Call makes k es).calls ++ (c ∷ [])
   unfolding counted_after
   counted-more [] k c = refl
   counted-more (call d ∷ es) k c = counted-more es _ c
@@ -22,9 +24,37 @@ module _ (Kept Call : Type 0) where
   counted-more (reboot n left ∷ es) k c = counted-more es _ c
 
   -- a call survives as the last, whatever was lost before it
-  pub call-survives : (es : List (Event Kept Call)) (c : Call) → surviving Kept Call (es ++ (call c ∷ [])) ≡ surviving Kept Call es ++ (c ∷ [])
+  pub call-survives : (es : List (Event Kept Call)) (c : Call) → surviving Kept Call makes (es ++ (call c ∷ [])) ≡ surviving Kept Call makes es ++ (c ∷ [])
   call-survives es c = counted-more es (record { calls = []; saved = [] }) c
 
+  -- where all saves of states that good calls lead to make files, or none does, each counts, or none
+  module _ (Good : Event Kept Call → Type 0) (b : Bool) (alike : (cs : List Call) → All (λ (c : Call). Good (call c)) cs → (lent : List ℕ) → Good (save lent) → makes cs lent ≡ b) where
+    abbrev GoodCalls : List Call → Type 0
+    GoodCalls = All (λ (c : Call). Good (call c))
+
+    saved-at : (css : List (List Call)) (n : ℕ) → All GoodCalls css → GoodCalls (unwrap_or (slice_get css n) [])
+    saved-at [] n h = all_nil (λ (c : Call). Good (call c))
+    saved-at (cs ∷ css) zero h = h cs (Memᴰ.head refl)
+    saved-at (cs ∷ css) (suc n) h = saved-at css n (λ a m. h a (Memᴰ.tail m))
+
+    more-saved : (t : Bool) (css : List (List Call)) (cs : List Call) → All GoodCalls css → GoodCalls cs → All GoodCalls (cond t (css ++ (cs ∷ [])) css)
+    more-saved true css cs h k = all_snoc GoodCalls css cs h k
+    more-saved false css cs h k = h
+
+    counted-alike : (es : List (Event Kept Call)) (k : Counted Kept Call) → All Good es → GoodCalls k.calls → All GoodCalls k.saved
+        → counted_after Kept Call makes k es ≡ counted_after Kept Call (λ cs lent. b) k es
+    unfolding counted_after
+    counted-alike [] k g c s = refl
+    counted-alike (call d ∷ es) k g c s = counted-alike es _ (λ x m. g x (Memᴰ.tail m)) (all_snoc (λ (c : Call). Good (call c)) k.calls d c (g (call d) (Memᴰ.head refl))) s
+    counted-alike (save lent ∷ es) k g c s =
+        ap (λ (t : Bool). counted_after Kept Call makes (record { calls = k.calls; saved = cond t (k.saved ++ (k.calls ∷ [])) k.saved }) es) (alike k.calls c lent (g (save lent) (Memᴰ.head refl)))
+        ∙ counted-alike es _ (λ x m. g x (Memᴰ.tail m)) c (more-saved b k.saved k.calls s c)
+    counted-alike (reboot n left ∷ es) k g c s = counted-alike es _ (λ x m. g x (Memᴰ.tail m)) (saved-at k.saved n s) s
+
+    pub saves-alike : (es : List (Event Kept Call)) → All Good es → surviving Kept Call makes es ≡ surviving Kept Call (λ cs lent. b) es
+    saves-alike es g = ap (λ (k : Counted Kept Call). k.calls) (counted-alike es (record { calls = []; saved = [] }) g (all_nil (λ (c : Call). Good (call c))) (all_nil GoodCalls))
+
+module _ (Kept Call : Type 0) where
   pub led-more : (step : Kept → Call → Kept) (s : Kept) (cs : List Call) (c : Call) → led_to Kept Call step s (cs ++ (c ∷ [])) ≡ step (led_to Kept Call step s cs) c
   unfolding led_to
   led-more step s [] c = refl
@@ -68,10 +98,16 @@ module _ (Kept Call : Type 0) where
     match-at (x ∷ fs) (y ∷ css) zero m = m.0
     match-at (x ∷ fs) (y ∷ css) (suc n) m = match-at fs css n m.1
 
-    -- the set-up made anew is the first one, and each state that good calls lead to is written, and read back
+    -- a save that makes a file writes it so that it is read back; one that is refused writes none
+    abbrev pub Back : Bool → List Call → List ℕ → Type 0
+    Back true cs lent = (file : List ℕ) × (write (led cs) lent ≡ Some file) × ((left : Kept) → read left file ≡ Some (led cs))
+    Back false cs lent = write (led cs) lent ≡ None
+
+    -- the set-up made anew is the first one, and so is each state saved that good calls lead to
     module _
+        (makes : List Call → List ℕ → Bool)
         (same : (left : Kept) → anew left ≡ s)
-        (back : (cs : List Call) → All GoodCall cs → (lent : List ℕ) → Good (save lent) → (file : List ℕ) × (write (led cs) lent ≡ Some file) × ((left : Kept) → read left file ≡ Some (led cs)))
+        (back : (cs : List Call) → All GoodCall cs → (lent : List ℕ) → Good (save lent) → Back (makes cs lent) cs lent)
       where
         record Agree (k : Counted Kept Call) (h : OnGateway Kept Call) : Type 0 where
           pub calls : All GoodCall k.calls
@@ -79,10 +115,13 @@ module _ (Kept Call : Type 0) where
           pub files : Match h.files k.saved
 
         new-file : (x : Kept) (cs : List Call) → All GoodCall cs → x ≡ led cs → (lent : List ℕ) → Good (save lent) → (fs : List (List ℕ)) (css : List (List Call)) → Match fs css
-            → Match (more fs (write x lent)) (css ++ (cs ∷ []))
-        new-file x cs g e lent w fs css m =
-            let b = back cs g lent w in
-            subst (λ (o : Option (List ℕ)). Match (more fs o) (css ++ (cs ∷ []))) (sym (ap (λ (y : Kept). write y lent) e ∙ b.1)) (match-more fs css b.0 cs m (g, b.2))
+            → Match (more fs (write x lent)) (cond (makes cs lent) (css ++ (cs ∷ [])) css)
+        new-file x cs g e lent w fs css m = go (makes cs lent) (back cs g lent w)
+          where
+            go : (b : Bool) → Back b cs lent → Match (more fs (write x lent)) (cond b (css ++ (cs ∷ [])) css)
+            go true b =
+                subst (λ (o : Option (List ℕ)). Match (more fs o) (css ++ (cs ∷ []))) (sym (ap (λ (y : Kept). write y lent) e ∙ b.1)) (match-more fs css b.0 cs m (g, b.2))
+            go false b = subst (λ (o : Option (List ℕ)). Match (more fs o) css) (sym (ap (λ (y : Kept). write y lent) e ∙ b)) m
 
         rebooted : (left : Kept) (o : Option (List ℕ)) (p : Option (List Call)) → Found o p → (unwrap_or (o >>= read left) (anew left) ≡ led (unwrap_or p [])) × All GoodCall (unwrap_or p [])
         unfolding led_to
@@ -91,7 +130,7 @@ module _ (Kept Call : Type 0) where
         rebooted left (Some f) None a = absurd a
         rebooted left (Some f) (Some cs) a = (ap (λ (r : Option Kept). unwrap_or r (anew left)) (a.1 left), a.0)
 
-        agree : (es : List (Event Kept Call)) (k : Counted Kept Call) (h : OnGateway Kept Call) → All Good es → Agree k h → Agree (counted_after Kept Call k es) (held_after Kept Call step anew write read h es)
+        agree : (es : List (Event Kept Call)) (k : Counted Kept Call) (h : OnGateway Kept Call) → All Good es → Agree k h → Agree (counted_after Kept Call makes k es) (held_after Kept Call step anew write read h es)
         unfolding counted_after held_after
         agree [] k h g a = a
         agree (call c ∷ es) k h g a =
@@ -111,7 +150,7 @@ module _ (Kept Call : Type 0) where
             agree es _ _ (λ x m. g x (Memᴰ.tail m)) (record { calls = r.1; state = r.0; files = a.files })
 
         -- THE LAW: the state after any events is the state that the surviving calls lead to
-        pub one_list : (es : List (Event Kept Call)) → All Good es → state_after Kept Call step anew write read s es ≡ led (surviving Kept Call es)
+        pub one_list : (es : List (Event Kept Call)) → All Good es → state_after Kept Call step anew write read s es ≡ led (surviving Kept Call makes es)
         unfolding led_to
         one_list es g = (agree es (record { calls = []; saved = [] }) (record { state = s; files = [] }) g (record { calls = all_nil GoodCall; state = refl; files = tt })).state
 

@@ -1,6 +1,6 @@
 -- "A list of calls that passes through a save and its own restore counts as one list, for share and for least result alike; calls made between the two are lost
 -- with the reboot and are not of it." What happens to a gateway, which of its calls count, and what it then holds; of whatever keeps a state and is called.
-use Rattle.std.specs.Prelude.{ℕ, List, [], ◌∷◌, ◌++◌, Option, Some, None, unwrap_or, slice_get}
+use Rattle.std.specs.Prelude.{ℕ, Bool, cond, List, [], ◌∷◌, ◌++◌, Option, Some, None, unwrap_or, slice_get}
 use Rattle.ledger.specs.Words.{◌>>=◌}
 
 -- one more, if there is one
@@ -12,7 +12,7 @@ more xs (Some x) = xs ++ (x ∷ [])
 module _ (Kept Call : Type 0) where
   pub data Event : Type 0 where
     call : Call → Event
-    -- a new file of the state, in memory that is lent for it, beside those that are kept
+    -- a new file of the state, in memory that is lent for it, beside those that are kept; none, where the save is refused
     save : List ℕ → Event
     -- the state is lost, and anything may stand in its place; the file with this number, counted from 0, is restored
     reboot : ℕ → Kept → Event
@@ -23,15 +23,17 @@ module _ (Kept Call : Type 0) where
     pub calls : List Call
     pub saved : List (List Call)
 
-  unfoldable pub counted_after : Counted → List Event → Counted
-  counted_after k [] = k
-  counted_after k (call c ∷ es) = counted_after (record { calls = k.calls ++ (c ∷ []); saved = k.saved }) es
-  counted_after k (save lent ∷ es) = counted_after (record { calls = k.calls; saved = k.saved ++ (k.calls ∷ []) }) es
-  counted_after k (reboot n left ∷ es) = counted_after (record { calls = unwrap_or (slice_get k.saved n) []; saved = k.saved }) es
+  -- makes: whether a save of the state that calls lead to, to lent memory, makes a file
+  module _ (makes : List Call → List ℕ → Bool) where
+    unfoldable pub counted_after : Counted → List Event → Counted
+    counted_after k [] = k
+    counted_after k (call c ∷ es) = counted_after (record { calls = k.calls ++ (c ∷ []); saved = k.saved }) es
+    counted_after k (save lent ∷ es) = counted_after (record { calls = k.calls; saved = cond (makes k.calls lent) (k.saved ++ (k.calls ∷ [])) k.saved }) es
+    counted_after k (reboot n left ∷ es) = counted_after (record { calls = unwrap_or (slice_get k.saved n) []; saved = k.saved }) es
 
-  -- "calls made between the two are lost"
-  abbrev pub surviving : List Event → List Call
-  surviving es = (counted_after (record { calls = []; saved = [] }) es).calls
+    -- "calls made between the two are lost"
+    abbrev pub surviving : List Event → List Call
+    surviving es = (counted_after (record { calls = []; saved = [] }) es).calls
 
   -- ---- what the gateway holds
 

@@ -18,12 +18,12 @@ use Rattle.records.specs.declared.Piece.{Piece}
 use Rattle.records.specs.declared.Table.{Table}
 use Rattle.records.proofs.Sections.{tables-of, agrees-perm, agrees-exactly}
 use Rattle.records.proofs.Tabled.{full_table}
-use Rattle.kinds.specs.Rows.{has_place, setup_in}
 use Rattle.kinds.specs.Typed.{TypedState}
-use Rattle.kinds.specs.Kinds.{kind_words, Roomy}
+use Rattle.kinds.specs.Kinds.{has_place, kind_words, Roomy}
 use Rattle.kinds.specs.Opened.{state_in}
 use Rattle.kinds.proofs.Typed.{measured-of}
 use Rattle.kinds.proofs.Decoded.{decoded}
+use Rattle.kinds.proofs.Place.{read-placed}
 use Rattle.kinds.proofs.Saving.{state-back}
 use Rattle.kinds.proofs.Few.{kind-few}
 use Rattle.saved.specs.File.{pieces_of}
@@ -35,7 +35,7 @@ use Rattle.saved.proofs.Wrote.{roomy}
 
 -- ---- a sound state's own records, in any order
 
-module _ (s : State) (e : sound_state s ≡ true) (h : has_place s.setup ≡ true) (p : TypedState s) where
+module _ (s : State) (e : sound_state s ≡ true) (h : has_place s ≡ true) (p : TypedState s) where
   room : Roomy s
   room = roomy s (measured-of s p) e
 
@@ -47,7 +47,7 @@ module _ (s : State) (e : sound_state s ≡ true) (h : has_place s.setup ≡ tru
     unfolding pieces_of
     table kind a b = tables-of (kind_words s) 6 rs r kind a b (few kind)
 
-    words : (kind : ℕ) → 1 ≤ kind → kind ≤ 6 → (table_of kind rs).words ≡ pad_to 3600 0 (kind_words s kind)
+    pub words : (kind : ℕ) → 1 ≤ kind → kind ≤ 6 → (table_of kind rs).words ≡ pad_to 3600 0 (kind_words s kind)
     words kind a b = ap (λ (t : Table). t.words) (table kind a b)
 
     state-on : state_on rs ≡ s
@@ -112,10 +112,11 @@ module _ (rs : List Piece) where
   pub refused-not-taken : (s : State) → content_of rs ≡ Err BadContent → content_of rs ≡ Ok s → ⊥
   refused-not-taken s e d = apart BadContent (sym e ∙ d)
 
--- what is taken has clamp, so it has a place
-taken-place : (rs : List Piece) (s : State) → content_of rs ≡ Ok s → has_place s.setup ≡ true
-unfolding state_in setup_in
-taken-place rs s e = subst (λ (t : State). has_place t.setup ≡ true) (read rs s e).is refl
+-- what is taken has a place
+taken-place : (rs : List Piece) (s : State) → content_of rs ≡ Ok s → has_place s ≡ true
+taken-place rs s e =
+    subst (λ (t : State). has_place t ≡ true) (read rs s e).is
+    (read-placed (table_of 1 rs).words (table_of 2 rs).words (table_of 3 rs).words (table_of 4 rs).words (table_of 5 rs).words (table_of 6 rs).words)
 
 -- what is taken is a state of the machine
 taken-typed : (rs : List Piece) (s : State) → content_of rs ≡ Ok s → TypedState s

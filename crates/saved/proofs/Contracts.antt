@@ -13,7 +13,7 @@ use Rattle.state.specs.Sound.{sound_state}
 use Rattle.state.specs.declared.State.{State}
 use Rattle.saved.specs.File.{file_of}
 use Rattle.saved.specs.Restore.{taken, restore_of}
-use Rattle.kinds.specs.Rows.{has_place}
+use Rattle.kinds.specs.Kinds.{has_place}
 use Rattle.saved.specs.Save.{is_savable, save_of, saved_in}
 use Rattle.std.proofs.lemmas.Bool.{and_parts}
 use Rattle.saved.specs.declared.FileRefusal.TheVariants.{BadFile, BadContent}
@@ -61,10 +61,10 @@ module _ (s : State) (f : List ℕ) where
 
     -- only a sound state is written, and one that the file has a place for
     pub is-sound : sound_state s ≡ true
-    is-sound = (and_parts (sound_state s) (has_place s.setup) all.1).0
+    is-sound = (and_parts (sound_state s) (has_place s) all.1).0
 
-    pub in-place : has_place s.setup ≡ true
-    in-place = (and_parts (sound_state s) (has_place s.setup) all.1).1
+    pub in-place : has_place s ≡ true
+    in-place = (and_parts (sound_state s) (has_place s) all.1).1
 
     -- "It reports the file's length and touches nothing past it"
     pub file-length : n ≡ length (file_of s)

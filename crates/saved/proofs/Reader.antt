@@ -18,8 +18,7 @@ use Rattle.records.specs.Chain.{misfits, next_at, chain_of, chain_length, walk, 
 use Rattle.records.specs.declared.Table.{Table}
 use Rattle.records.proofs.Written.{records-length}
 use Rattle.records.proofs.Exact.{chain-walk}
-use Rattle.kinds.specs.Kinds.{kind_number, kind_words}
-use Rattle.kinds.specs.Rows.{has_place}
+use Rattle.kinds.specs.Kinds.{has_place, kind_number, kind_words}
 use Rattle.kinds.specs.Opened.{state_of}
 use Rattle.kinds.specs.declared.kind.Kind.{Kind}
 use Rattle.saved.specs.File.{pieces_of, file_of}
@@ -37,9 +36,9 @@ module _ (s : State) (f : List ℕ) where
 
   -- neither a state that is not sound nor one with no place is written
   pub unsound : sound_state s ≡ false → is_savable s ≡ false
-  unsound e = ap (λ (b : Bool). b && has_place s.setup) e
+  unsound e = ap (λ (b : Bool). b && has_place s) e
 
-  pub no-place : has_place s.setup ≡ false → is_savable s ≡ false
+  pub no-place : has_place s ≡ false → is_savable s ≡ false
   no-place e = ap (λ (b : Bool). sound_state s && b) e ∙ and-false (sound_state s)
 
   pub not-savable : is_savable s ≡ false → Saved (Err BadContent) f

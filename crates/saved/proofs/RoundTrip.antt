@@ -13,9 +13,8 @@ use Rattle.records.specs.Chain.{file_of_pieces, chain_of}
 use Rattle.records.proofs.Fits.{Small, chain-all, file-fits}
 use Rattle.records.proofs.Sections.{sections-fit}
 use Rattle.records.proofs.Written.{Fit}
-use Rattle.kinds.specs.Rows.{has_place}
 use Rattle.kinds.specs.Typed.{TypedState, TypedNumbers}
-use Rattle.kinds.specs.Kinds.{kind_words, Roomy}
+use Rattle.kinds.specs.Kinds.{has_place, kind_words, Roomy}
 use Rattle.kinds.proofs.Typed.{measured-of}
 use Rattle.kinds.proofs.Small.{kinds-small}
 use Rattle.kinds.proofs.Few.{kind-few}
@@ -29,12 +28,12 @@ use Rattle.saved.proofs.Content.{own-taken}
 -- a state that can be saved: sound, with a place in the file, of the machine, and every word has 64 bits
 pub record Savable (s : State) : Type 0 where
   pub sound : sound_state s ≡ true
-  pub place : has_place s.setup ≡ true
+  pub place : has_place s ≡ true
   pub typed : TypedState s
   pub small : (kind : ℕ) → 1 ≤ kind → kind ≤ 6 → Small (kind_words s kind)
 
 -- so it is of every sound state of the machine with clamp
-pub typed-savable : (s : State) → sound_state s ≡ true → has_place s.setup ≡ true → TypedState s → TypedNumbers s → Savable s
+pub typed-savable : (s : State) → sound_state s ≡ true → has_place s ≡ true → TypedState s → TypedNumbers s → Savable s
 typed-savable s e h p c = record { sound = e; place = h; typed = p; small = λ kind a b. kinds-small s e p c kind }
 
 module _ (s : State) (v : Savable s) where

@@ -12,7 +12,7 @@ use lib.ListN.{length, take}
 use Rattle.state.specs.Sound.{sound_state}
 use Rattle.state.specs.declared.State.{State}
 use Rattle.state.specs.contracts.State as S
-use Rattle.kinds.specs.Rows.{has_place}
+use Rattle.kinds.specs.Kinds.{has_place}
 use Rattle.kinds.proofs.Types.{typed-state, typed-numbers}
 use Rattle.saved.specs.Restore.{taken, restore_of}
 use Rattle.saved.specs.Save.{save_of, saved_in}
@@ -21,7 +21,7 @@ use Rattle.saved.proofs.RoundTrip.{Savable, typed-savable, bytes-tell}
 use Rattle.saved.proofs.Contracts.{is-sound, in-place, bytes-written, restored}
 
 -- every sound state with clamp that a function is handed can be saved
-pub savable : (s : State) (vs : List Val) → Is S.the_row s vs → sound_state s ≡ true → has_place s.setup ≡ true → Savable s
+pub savable : (s : State) (vs : List Val) → Is S.the_row s vs → sound_state s ≡ true → has_place s ≡ true → Savable s
 savable s vs p e h = typed-savable s e h (typed-state s vs p) (typed-numbers s vs p)
 
 pub survives : (s old : State) (vs : List Val) → Is S.the_row s vs → (f : List ℕ) (n : ℕ) → save_of s (length f) ≡ Ok n → restore_of old (take n (saved_in s f)) ≡ taken s

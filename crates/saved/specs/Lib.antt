@@ -3,3 +3,4 @@ pub mod Save
 pub mod Restore
 pub mod Saves
 pub mod Large
+pub mod Ladder

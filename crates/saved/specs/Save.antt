@@ -2,15 +2,15 @@
 use Rattle.std.specs.Prelude.{ℕ, Bool, ◌&&◌, cond, List, ◌++◌, leb, ltb, length, drop, Result, Ok, Err}
 use Rattle.state.specs.Sound.{sound_state}
 use Rattle.state.specs.declared.State.{State}
-use Rattle.kinds.specs.Rows.{has_place}
+use Rattle.kinds.specs.Kinds.{has_place}
 use Rattle.saved.specs.File.{file_of}
 use Rattle.saved.specs.declared.FileRefusal.TheVariants.{BadFile, BadContent}
 use Rattle.saved.specs.declared.FileRefusal.{FileRefusal}
 
--- the states that can be saved: sound, and with clamp, since "the saved file has no place for midpoint yet, so its writer gives 13 for such a
--- state" (document 02, W7)
+-- the states that can be saved: sound, with clamp and without ladders, since "the saved file has no place for midpoint yet, so its writer gives 13
+-- for such a state" (document 02, W7) and "the saved file's writer .. give[s] 13 for a ladder" (W9)
 abbrev pub is_savable : State → Bool
-is_savable s = sound_state s && has_place s.setup
+is_savable s = sound_state s && has_place s
 
 -- room is the lent file's length
 unfoldable pub save_of : State → ℕ → Result ℕ FileRefusal

@@ -5,14 +5,14 @@ use Rattle.state.specs.declared.State.{State}
 use Rattle.state.specs.Sound.{sound_state}
 use Rattle.records.specs.declared.Piece.{Piece}
 use Rattle.records.specs.Chain.{Follows, records_at, Broken}
-use Rattle.kinds.specs.Rows.{has_place}
+use Rattle.kinds.specs.Kinds.{has_place}
 use Rattle.kinds.specs.Typed.{TypedState}
 use Rattle.saved.specs.File.{pieces_of}
 
 -- a sound state of the machine that has a place in a file and exactly these records, each once, in some order
 pub record Of (rs : List Piece) (s : State) : Type 0 where
   pub sound : sound_state s ≡ true
-  pub place : has_place s.setup ≡ true
+  pub place : has_place s ≡ true
   pub typed : TypedState s
   pub records : Permᴰ rs (pieces_of s)
 

@@ -14,7 +14,7 @@ mod written;
 use crate::compared::kinds_hold;
 use crate::written::{put_state, record_total};
 use kinds::kind::Kind;
-use kinds::rows::has_place;
+use kinds::sections::has_place;
 use opened::state_in;
 use records::Table;
 use records::chain::{chain_length, collect};
@@ -52,7 +52,7 @@ pub struct Restored {
 pub fn save(state: &State, file: &mut [u8]) -> Result<usize, FileRefusal>
     ensures { (result ≡ save_of state.now (length file.old)) × (file.new ≡ saved_in state.now file.old) }
 {
-    if !state.is_sound() || !has_place(state.setup) {
+    if !state.is_sound() || !has_place(state) {
         return Err(FileRefusal::BadContent);
     }
     let count = record_total(state);
