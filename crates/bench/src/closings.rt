@@ -21,7 +21,7 @@ pub struct Campaign {
 fn closing(rt: &impl Clock, c: Campaign) -> io::Result<Campaign> {
     let state = c.state;
     let numbers = state.trials.map(|trial| trial.number);
-    let values = drawn::<224, _>(state.word, rng_util::unit);
+    let values = drawn::<f64, 224, _>(state.word, 0.0, rng_util::unit);
     let states = [TrialState::Complete; 224];
     let n = state.n.min(224);
     let from = now(rt)?;

@@ -5,10 +5,12 @@ mod campaign;
 mod clock;
 mod closings;
 mod draws;
+mod ladders;
 mod measure;
 mod rounded;
 mod scan;
 mod show;
+mod summed;
 mod work;
 
 use std::rt::Env;

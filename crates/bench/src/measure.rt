@@ -1,7 +1,8 @@
-// The figures: at N = 160 with 16 dimensions, at N = 20 with 2, of a long history, and of rounding by itself.
+// The figures: at N = 160 with 16 dimensions, at N = 20 with 2, of a long history, and of rounding and ladders by themselves.
 use crate::campaign::{open, trials, with_midpoint};
 use crate::closings::best_closing;
-use crate::rounded::best_pass;
+use crate::ladders::{best_bounds, best_decoding};
+use crate::rounded::best_rounding;
 use crate::scan::scan;
 use crate::show::{expect, hundredfold, ratio, time};
 use crate::work::{best, copies};
@@ -56,9 +57,18 @@ fn long_history(rt: &(impl Clock + Print), state: State) -> io::Result<()> {
 }
 
 fn rounding_alone(rt: &(impl Clock + Print), seed: u64) -> io::Result<()> {
-    let p = best_pass(rt, seed)?;
+    let p = best_rounding(rt, seed)?;
     expect(rt, p.sum == rounding::round(p.sum))?;
     time(rt, "round", "", hundredfold(p.ns, 1000))
+}
+
+fn ladders_alone(rt: &(impl Clock + Print), seed: u64) -> io::Result<()> {
+    let decoding = best_decoding(rt, seed)?;
+    let bounds = best_bounds(rt, seed)?;
+    expect(rt, decoding.sum >= 1000000.0)?;
+    expect(rt, bounds.sum >= 7936000000.0)?;
+    time(rt, "ladder-decoding", "", hundredfold(decoding.ns, 1000))?;
+    time(rt, "ladder-bounds", "", hundredfold(bounds.ns, 1000))
 }
 
 // The seed is how many arguments there are: 2, which the compiler does not know.
@@ -68,5 +78,6 @@ pub fn measure(rt: &(impl Alloc + Clock + Env + Print)) -> io::Result<()> {
     lines(rt, "-160-16", figures_of(rt, state, 160)?)?;
     lines(rt, "-20-2", figures_of(rt, open(seed, 2, 22), 20)?)?;
     long_history(rt, state)?;
-    rounding_alone(rt, seed)
+    rounding_alone(rt, seed)?;
+    ladders_alone(rt, seed)
 }

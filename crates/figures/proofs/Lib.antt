@@ -1,2 +1,3 @@
-pub mod Table
+pub mod Ladder
 pub mod Midpoint
+pub mod Table

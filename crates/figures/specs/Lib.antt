@@ -1,3 +1,4 @@
-pub mod Leaves
 pub mod Evolution
+pub mod Ladder
+pub mod Leaves
 pub mod Midpoint

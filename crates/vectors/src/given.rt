@@ -19,6 +19,16 @@ pub fn int(low: i64, high: i64, step: Option<i64>) -> Distribution {
     })
 }
 
+// With the log flag.
+pub fn logarithmic(low: i64, high: i64, step: Option<i64>) -> Distribution {
+    Distribution::Int(IntDistribution {
+        low,
+        high,
+        log_scale: true,
+        step,
+    })
+}
+
 // Float 0..1.
 pub fn unit_interval() -> Distribution {
     float(0.0, 1.0, false, None)

@@ -1,5 +1,5 @@
 // The published SplitMix64 outputs, and the bench figures of the generator, rounding, mapping and history.
-use crate::given::{float, int};
+use crate::given::{float, int, logarithmic};
 use crate::show::figure;
 use distribution::ParamValue;
 use history::TrialState;
@@ -60,6 +60,37 @@ pub fn steps(rt: &impl Print) -> io::Result<()> {
         rt,
         "Int 1..11 step 4 of 8",
         matches!(common::from_internal(8.0, fours), ParamValue::Int(9)),
+    )
+}
+
+// Request W9: R(405) is 2, R(406) is 3, R(594) is 4, R(595) is 5, and a high of 60 is R of its position.
+pub fn ladders(rt: &impl Print) -> io::Result<()> {
+    let wide = logarithmic(1, 64, None);
+    let narrow = logarithmic(5, 60, None);
+    figure(
+        rt,
+        "Int 1..64, log of 405.49",
+        matches!(common::from_internal(405.49, wide), ParamValue::Int(2)),
+    )?;
+    figure(
+        rt,
+        "Int 1..64, log of 405.5",
+        matches!(common::from_internal(405.5, wide), ParamValue::Int(3)),
+    )?;
+    figure(
+        rt,
+        "Int 1..64, log of 594.5",
+        matches!(common::from_internal(594.5, wide), ParamValue::Int(5)),
+    )?;
+    figure(
+        rt,
+        "Int 5..60, log of 594",
+        matches!(common::from_internal(594.0, narrow), ParamValue::Int(5)),
+    )?;
+    figure(
+        rt,
+        "Int 5..60, log of 9999",
+        matches!(common::from_internal(9999.0, narrow), ParamValue::Int(60)),
     )
 }
 

@@ -21,6 +21,7 @@ fn main(rt: HostRuntime) -> io::Result<()> {
     leaves::units(&rt)?;
     leaves::rounds(&rt)?;
     leaves::steps(&rt)?;
+    leaves::ladders(&rt)?;
     leaves::last_entry(&rt)?;
     table::setups(&rt)?;
     table::distributions(&rt)?;

@@ -1,7 +1,7 @@
 // The small inputs of the table of refusals (3, 9 and 10 are with the bounds).
 use crate::answers::{is_refused, refused};
 use crate::calls::{discovered, fresh, refusal};
-use crate::given::{float, int, unit_interval};
+use crate::given::{float, int, logarithmic, unit_interval};
 use crate::show::figure;
 use de::Sampled;
 use de::build::DESamplerBuilder;
@@ -24,11 +24,15 @@ pub fn setups(rt: &impl Print) -> io::Result<()> {
 pub fn distributions(rt: &impl Print) -> io::Result<()> {
     let state = fresh(4);
     let upside_down = int(3, 2, None);
-    let logarithmic = float(1.0, 10.0, true, None);
+    let doubles = float(1.0, 10.0, true, None);
+    let from_0 = logarithmic(0, 9, None);
+    let stepped = logarithmic(1, 9, Some(1));
     let still = int(1, 9, Some(0));
     let empty = Distribution::Categorical(CategoricalDistribution { n_choices: 0 });
     refusal(rt, "Int 3..2 is 4", state, upside_down, 1, 4)?;
-    refusal(rt, "Float 1..10, log is 5", state, logarithmic, 1, 5)?;
+    refusal(rt, "Float 1..10, log is 5", state, doubles, 1, 5)?;
+    refusal(rt, "Int 0..9, log is 5", state, from_0, 1, 5)?;
+    refusal(rt, "Int 1..9, step 1, log is 5", state, stepped, 1, 5)?;
     refusal(rt, "Int 1..9, step 0 is 6", state, still, 1, 6)?;
     refusal(rt, "0 choices is 7", state, empty, 1, 7)
 }
