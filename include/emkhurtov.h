@@ -21,16 +21,17 @@
 extern "C" {
 #endif
 
-#define DE_VERSION "0.9.0"
+#define DE_VERSION "0.10.0"
 #define DE_VERSION_MAJOR 0
-#define DE_VERSION_MINOR 9
+#define DE_VERSION_MINOR 10
 #define DE_VERSION_PATCH 0
 
 /* The version of the library that is linked: DE_VERSION, where it is this header's. Where it is another, do not call,
  * and compile anew. In 0.7.0 an entry of the history has grown, which no call sees. In 0.8.0 the set-up has, and with
  * it the state: a checked function that is lent the size of the old one answers DE_SHORT_BUFFER; no other call sees it.
  * In 0.9.0 no struct has changed: refusal 11 (DE_ENTRY_NAN) is gone, and a state with an entry over 4e300 in size is
- * refused (DeState). */
+ * refused (DeState). In 0.10.0 no struct has changed: an Int with log scale is taken as a ladder (DeDistribution),
+ * where it was refused by DE_LOG_SCALE. */
 const char *de_version(void);
 
 enum {
@@ -46,6 +47,7 @@ enum {
 #define DE_MAX_REAL 1e300                      /* the largest Float bound */
 #define DE_MAX_WHOLE INT64_C(9007199254740992) /* 2^53, the largest Int bound and step */
 #define DE_MAX_STEPS INT64_C(4294967295)       /* the most steps of a Float distribution */
+#define DE_MAX_LADDER INT64_C(2147483648)      /* 2^31, the largest high bound of a ladder (DeDistribution) */
 
 /* `sized`, `stepped`, `log_scale`, `named` and `discovered` are one of these. */
 enum { DE_NO = 0, DE_YES = 1 };
@@ -92,7 +94,8 @@ enum {
     DE_CROSSOVER_RATE = 2,  /* CR is not in 0 to 1 */
     DE_POPULATION_SIZE = 3, /* over DE_MAX_POPULATION */
     DE_BOUNDS = 4,          /* not finite, low over high, or past DE_MAX_REAL (Float) or DE_MAX_WHOLE (Int) */
-    DE_LOG_SCALE = 5,       /* no log scale is offered */
+    DE_LOG_SCALE = 5,       /* log scale of a Float, or of an Int with a step or with bounds outside 1 to
+                             * DE_MAX_LADDER; in de_to_internal any log scale */
     DE_STEP = 6,            /* not finite, not above 0, past DE_MAX_WHOLE (Int), or over DE_MAX_STEPS steps (Float) */
     DE_CHOICES = 7,         /* no choice, or over DE_MAX_CHOICES */
     DE_HISTORY_NAN = 8,     /* the value of a complete entry of the history is NaN */
@@ -102,8 +105,8 @@ enum {
     /* Of saved files alone; docs/SAVED.md has both checks word by word. */
     DE_BAD_FILE = 12,    /* empty, no multiple of 32 bytes, a broken chain; in saving: the lent memory is too short */
     DE_BAD_CONTENT = 13, /* what the file holds, or the state that is to be saved, is none that a sampler can have
-                          * (DeState); in saving also: the state's bounds rule is DE_MIDPOINT, for which a file has no
-                          * place yet */
+                          * (DeState); in saving also: the state's bounds rule is DE_MIDPOINT or one of its dimensions
+                          * is a ladder, for which a file has no place yet */
     /* Of metrics exports alone. */
     DE_MALFORMED_LINE = 14, /* a line is malformed; `line` is the number of the first such line, from 1 */
     DE_SHORT_HISTORY = 15   /* every line is well, and the lent history has fewer places than there are entries */
@@ -134,13 +137,28 @@ typedef struct DeSetup {
 #define DE_SETUP_DEFAULT                                                                                               \
     { 0.8, 0.9, DE_RAND1, DE_NO, 0, 0, DE_CLAMP }
 
-/* Fields that the kind has no use for are not read. */
+/* Fields that the kind has no use for are not read.
+ *
+ * An Int with `log_scale` DE_YES is a ladder, for numbers whose ratio matters and not their difference, such as queue
+ * depths. Its low is at least 1, its high at most DE_MAX_LADDER, and it has no step: DE_LOG_SCALE otherwise. R(p), the
+ * rung at position p, is the whole part of 2^(p/256), p from 0 to 7,936. The inner bounds are positions: the lower is 0
+ * for low 1, else the largest p with R(p) below low; the upper is the least p with R(p) at least high. An entry is a
+ * double between these two. To decode it, it is clamped to them and rounded to p, and R(p) is clamped to low and high.
+ * In discovery, and past the last dimension, p is drawn from the inner bounds, both included. So 1 to 64 has 1,537
+ * positions, of which a setting has
+ *
+ *     setting             1     2     3     4     5     8    16    32    63    64
+ *     first position      0   256   406   512   595   768 1,024 1,280 1,531 1,536
+ *     positions         256   150   106    83    67    44    23    12     5     1
+ *
+ * and from each number up to its double there are 256. A whole number above 373 may be no rung: it is never a setting
+ * then, unless it is low or high. */
 typedef struct DeDistribution {
     uint64_t kind;     /* DE_FLOAT, DE_INT or DE_CHOICE */
     double low, high;  /* Float */
     int64_t whole_low; /* Int */
     int64_t whole_high;
-    uint64_t log_scale; /* DE_NO; DE_YES is refused */
+    uint64_t log_scale; /* DE_YES: an Int is a ladder, and a Float is refused; DE_NO: no log scale */
     uint64_t stepped;   /* DE_YES: the step is given; DE_NO: there is none */
     double step;        /* Float */
     int64_t whole_step; /* Int */
@@ -283,14 +301,15 @@ DeAnswer de_slot_setting(const DeState *state, uint64_t slot, uint64_t dimension
 
 /* Writes the whole state as a saved file (docs/SAVED.md), so that a campaign goes on after a restart: DE_SAVED with the
  * file's length, at most DE_MAX_FILE; no byte past that length is touched. Or DE_REFUSED: by DE_BAD_CONTENT where the
- * state is none that a sampler can have, or its bounds rule is DE_MIDPOINT, for which a file has no place yet; then by
- * DE_BAD_FILE where `room` is less than the length; nothing is written then. Equal states have equal bytes. */
+ * state is none that a sampler can have, or its bounds rule is DE_MIDPOINT or one of its dimensions is a ladder, for
+ * which a file has no place yet; then by DE_BAD_FILE where `room` is less than the length; nothing is written then.
+ * Equal states have equal bytes. */
 DeFile de_save(const DeState *state, uint8_t *file, size_t room);
 
 /* Reads a saved file: DE_RESTORED, and *state is the state that was saved, with 0 in each field that a kind or flag has
- * no use for and bounds rule DE_CLAMP; or DE_REFUSED by DE_BAD_FILE, then by DE_BAD_CONTENT, and *state is as it was,
- * bit for bit. What *state holds before is never read, as in de_new. The history is no part of a file: it stays the
- * caller's, and docs/GUIDE.md says what it must hold after a restart. */
+ * no use for, bounds rule DE_CLAMP and no ladder; or DE_REFUSED by DE_BAD_FILE, then by DE_BAD_CONTENT, and *state is
+ * as it was, bit for bit. What *state holds before is never read, as in de_new. The history is no part of a file: it
+ * stays the caller's, and docs/GUIDE.md says what it must hold after a restart. */
 DeFile de_restore(DeState *state, const uint8_t *file, size_t length);
 
 /* Reads a metrics export into a history that de_sample can be lent: DE_READ with the count of entries, each of which is
@@ -312,8 +331,8 @@ DeFile de_restore(DeState *state, const uint8_t *file, size_t length);
  * it. */
 DeRead de_read_history(const uint8_t *text, size_t length, DeCompletedTrial *history, size_t places);
 
-/* The double that a setting stands for; refusals 4 to 7 of the distribution, and DE_BOUNDS for an Int setting past
- * 2^53; 0.0 where the kinds differ. */
+/* The double that a setting stands for; refusals 4 to 7 of the distribution, DE_LOG_SCALE for a ladder too, and
+ * DE_BOUNDS for an Int setting past 2^53; 0.0 where the kinds differ. */
 DeInternal de_to_internal(DeDistribution distribution, DeSetting setting);
 
 /* For a watchdog: how much one de_sample call can draw (`draws` of its answer), which is never over DE_MAX_DRAWS. With

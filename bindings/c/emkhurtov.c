@@ -24,7 +24,8 @@ const char *de_refusal_text(uint64_t refusal) {
         [DE_CROSSOVER_RATE] = "the crossover rate is not between 0 and 1",
         [DE_POPULATION_SIZE] = "the population size is over 160",
         [DE_BOUNDS] = "a bound is not finite or over its limit, or low is above high",
-        [DE_LOG_SCALE] = "log scale is not offered",
+        [DE_LOG_SCALE] =
+            "log scale of a Float, of an Int with a step or with bounds outside 1 to 2,147,483,648, or in to_internal",
         [DE_STEP] = "the step is not finite, not above 0, or gives too many steps",
         [DE_CHOICES] = "there are no choices, or more than 65,535",
         [DE_HISTORY_NAN] = "the value of a complete entry of the history is NaN",
@@ -32,7 +33,7 @@ const char *de_refusal_text(uint64_t refusal) {
         [DE_EXTRA_TRIALS] = "a 65th trial beyond the population asks in one generation",
         [DE_BAD_FILE] = "the file is empty, cut off or its chain is broken, or the lent memory is too short for it",
         [DE_BAD_CONTENT] = "what the file holds, or the state that is to be saved, is none that a sampler can have, or "
-                           "the state's bounds rule is midpoint",
+                           "the state's bounds rule is midpoint or one of its dimensions is a ladder",
         [DE_MALFORMED_LINE] = "a line of the metrics export is malformed",
         [DE_SHORT_HISTORY] = "the lent history has fewer places than the metrics export has entries",
     };

@@ -1,5 +1,6 @@
-/* A second reading of the candidates that follow on a generation, which the library's are held against: mutation,
- * crossover and choices from document 01 ("Generator", steps 2 to 4), midpoint from document 02 (W7). */
+/* A second reading of candidates, which the library's are held against, random ones and those that follow on a
+ * generation: mutation, crossover and choices from document 01 ("Generator", steps 2 to 4), midpoint and the bounds of
+ * ladders from document 02 (W7, W9). */
 #ifndef SECOND_GENERATION_H
 #define SECOND_GENERATION_H
 
@@ -7,6 +8,8 @@
 
 #include <math.h>
 #include <string.h>
+
+#include "second_ladder.h"
 
 typedef struct {
     DeCandidate candidates[DE_MAX_POPULATION]; /* in the places of their slots; the others are as in a fresh state */
@@ -105,26 +108,48 @@ static void cross(const Makings *m, uint64_t slot, Generation *g) {
     }
 }
 
-/* The candidates that follow on the state's parents where at least one dimension is a Float or an Int, from the
- * generator's word `word` on. */
-static void second_generation(const DeState *s, uint64_t word, Generation *g) {
+static inline Makings makings(const DeState *s) {
     Makings m = {.state = s};
     for (uint64_t k = 0; k < s->n_dims; k++) {
-        const DeDistribution *d = &s->dims[k];
-        if (d->kind != DE_CHOICE) {
-            m.low[m.entries] = d->kind == DE_FLOAT ? d->low : (double)d->whole_low;
-            m.high[m.entries++] = d->kind == DE_FLOAT ? d->high : (double)d->whole_high;
+        if (s->dims[k].kind != DE_CHOICE) {
+            second_bounds(&s->dims[k], &m.low[m.entries], &m.high[m.entries]);
+            m.entries++;
         }
     }
+    return m;
+}
+
+static void draw_choices(const DeState *s, DeCandidate *c, Generation *g) {
+    for (uint64_t k = 0; k < s->n_dims; k++) {
+        if (s->dims[k].kind == DE_CHOICE) {
+            c->choices[k] = (uint16_t)(drawn_output(g) % s->dims[k].n_choices);
+        }
+    }
+}
+
+/* The candidates that follow on the state's parents where at least one dimension is a Float or an Int, from the
+ * generator's word `word` on. */
+static inline void second_generation(const DeState *s, uint64_t word, Generation *g) {
+    Makings m = makings(s);
     memset(g, 0, sizeof *g);
     g->word = word;
     for (uint64_t slot = 0; slot < s->n; slot++) {
         cross(&m, slot, g);
-        for (uint64_t k = 0; k < s->n_dims; k++) {
-            if (s->dims[k].kind == DE_CHOICE) {
-                g->candidates[slot].choices[k] = (uint16_t)(drawn_output(g) % s->dims[k].n_choices);
-            }
+        draw_choices(s, &g->candidates[slot], g);
+    }
+}
+
+/* As many random candidates, from the generator's word `word` on. */
+static inline void second_randoms(const DeState *s, uint64_t count, uint64_t word, Generation *g) {
+    Makings m = makings(s);
+    memset(g, 0, sizeof *g);
+    g->word = word;
+    for (uint64_t i = 0; i < count; i++) {
+        for (uint64_t j = 0; j < m.entries; j++) {
+            double unit = (double)(drawn_output(g) >> 11) * 0x1p-53;
+            g->candidates[i].x[j] = m.low[j] + unit * (m.high[j] - m.low[j]);
         }
+        draw_choices(s, &g->candidates[i], g);
     }
 }
 

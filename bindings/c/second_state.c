@@ -99,7 +99,7 @@ static int names_cases(const DeState *s) {
     int dims = 1;
     for (int k = 0; k < DE_MAX_DIMENSIONS; k++) {
         const DeDistribution *d = &s->dims[k];
-        int numeric = (d->kind == DE_FLOAT || d->kind == DE_INT) && d->log_scale == DE_NO && d->stepped <= DE_YES;
+        int numeric = (d->kind == DE_FLOAT || d->kind == DE_INT) && d->log_scale <= DE_YES && d->stepped <= DE_YES;
         dims = dims && (d->kind == DE_CHOICE || numeric);
     }
     return dims && s->setup.strategy <= DE_CURRENT_TO_BEST1 && s->setup.sized <= DE_YES && s->named <= DE_YES &&
@@ -160,9 +160,18 @@ static int unused_are_fresh(const DeState *s, const Lists *l) {
            memcmp(s->trials, laid.trials, sizeof s->trials) == 0;
 }
 
+/* Whether a file has a place for all of it: it has none yet for midpoint and for log scale. */
+static int has_place(const DeState *s) {
+    for (uint64_t k = 0; k < s->n_dims; k++) {
+        if (s->dims[k].kind != DE_CHOICE && s->dims[k].log_scale != DE_NO) {
+            return 0;
+        }
+    }
+    return s->setup.bounds_rule == DE_CLAMP;
+}
+
 int words_of(const DeState *s, Lists *l) {
-    /* A file has no place for midpoint yet. */
-    if (!names_cases(s) || s->setup.bounds_rule != DE_CLAMP) {
+    if (!names_cases(s) || !has_place(s)) {
         return 0;
     }
     list(s, l);

@@ -22,14 +22,14 @@
 //! # Ok::<(), Refusal>(())
 //! ```
 //!
-//! A sampler with clamp can be saved after each trial ([`Sampler::save`]) and restored after a restart ([`Sampler::restore`]);
+//! A sampler with clamp and no ladder can be saved after each trial ([`Sampler::save`]) and restored after a restart ([`Sampler::restore`]);
 //! examples/restart.rs does so. A history can be read from a metrics export ([`CompletedTrial::read_export`]).
 //!
 //! A trial that was killed is told as [`CompletedTrial::failed`], one that was stopped early as
 //! [`CompletedTrial::pruned`].
 //!
 //! Where the best setting lies near a bound, clamping piles trials up on that bound; [`BoundsRule::Midpoint`] draws
-//! them in.
+//! them in. Whole numbers whose ratio matters can be a ladder, [`Distribution::int_log`].
 
 #![deny(missing_docs)]
 

@@ -24,7 +24,8 @@ pub enum Refusal {
     PopulationSize,
     /// 4: a bound is not finite or over its limit (1e300, or 2^53 for whole numbers), or low is above high.
     Bounds,
-    /// 5: log scale, which is not offered.
+    /// 5: log scale of a Float, or of an Int with a step or with bounds outside 1 to 2,147,483,648; in
+    /// [`to_internal`](crate::to_internal) any log scale.
     LogScale,
     /// 6: a step is not finite, not above 0, over 2^53 for whole numbers, or gives more than 4,294,967,295 steps.
     Step,
@@ -75,7 +76,9 @@ impl fmt::Display for Refusal {
             Refusal::CrossoverRate => "the crossover rate is not between 0 and 1",
             Refusal::PopulationSize => "the population size is over 160",
             Refusal::Bounds => "a bound is not finite or over its limit, or low is above high",
-            Refusal::LogScale => "log scale is not offered",
+            Refusal::LogScale => {
+                "log scale of a Float, of an Int with a step or with bounds outside 1 to 2,147,483,648, or in to_internal"
+            }
             Refusal::Step => "the step is not finite, not above 0, or gives too many steps",
             Refusal::Choices => "there are no choices, or more than 65,535",
             Refusal::HistoryNan => "the value of a complete entry of the history is NaN",

@@ -199,7 +199,8 @@ impl fmt::Debug for Sampler {
     }
 }
 
-/// The double that a setting stands for in the search space; 0 where the kinds differ.
+/// The double that a setting stands for; 0 where the kinds differ. A ladder's setting has none: refused by
+/// [`Refusal::LogScale`].
 ///
 /// # Panics
 /// Where the linked library lays its structs out otherwise than this crate.
@@ -208,6 +209,7 @@ impl fmt::Debug for Sampler {
 /// use emkhurtov::{Distribution, ParamValue, Refusal, to_internal};
 /// assert_eq!(to_internal(&Distribution::int(1, 64), ParamValue::Int(8)), Ok(8.0));
 /// assert_eq!(to_internal(&Distribution::int(3, 2), ParamValue::Int(8)), Err(Refusal::Bounds));
+/// assert_eq!(to_internal(&Distribution::int_log(1, 64), ParamValue::Int(8)), Err(Refusal::LogScale));
 /// ```
 pub fn to_internal(distribution: &Distribution, setting: ParamValue) -> Result<f64, Refusal> {
     layout::check();

@@ -23,8 +23,8 @@ pub enum FileRefusal {
     /// 12: the file is empty, no multiple of 32 bytes, or its chain is broken; in saving, the lent memory is too short.
     BadFile,
     /// 13: no sound state has the file's records (one with an entry over 4e300 in size is not sound); in saving, the state
-    /// is not sound, or its bounds rule is [`BoundsRule::Midpoint`](crate::BoundsRule::Midpoint), for which a file has no
-    /// place yet.
+    /// is not sound, its bounds rule is [`BoundsRule::Midpoint`](crate::BoundsRule::Midpoint) or one of its dimensions is
+    /// a ladder ([`Distribution::int_log`](crate::Distribution::int_log)), for which a file has no place yet.
     BadContent,
 }
 
@@ -54,7 +54,7 @@ impl fmt::Display for FileRefusal {
             }
             FileRefusal::BadContent => {
                 "what the file holds, or the state that is to be saved, is none that a sampler can have, or the \
-                 state's bounds rule is midpoint"
+                 state's bounds rule is midpoint or one of its dimensions is a ladder"
             }
         };
         write!(f, "refusal {}: {why}", self.number())
@@ -65,8 +65,9 @@ impl Error for FileRefusal {}
 
 impl Sampler {
     /// The whole sampler as a saved file, at most [`MAX_FILE`] bytes; or [`FileRefusal::BadContent`] where its bounds
-    /// rule is [`BoundsRule::Midpoint`](crate::BoundsRule::Midpoint), for which a file has no place yet. Equal samplers
-    /// have equal files. The history is no part of it.
+    /// rule is [`BoundsRule::Midpoint`](crate::BoundsRule::Midpoint) or one of its dimensions is a ladder
+    /// ([`Distribution::int_log`](crate::Distribution::int_log)), for which a file has no place yet. Equal samplers have
+    /// equal files. The history is no part of it.
     ///
     /// Nothing else is refused: a sampler's state is made by [`SamplerBuilder::build`](crate::SamplerBuilder::build) or
     /// [`Sampler::restore`] and changed by [`Sampler::sample`] alone, and each of these leaves a state that a sampler
@@ -82,6 +83,9 @@ impl Sampler {
     /// assert_eq!(restored.sample(&depth, 1, &[]), sampler.sample(&depth, 1, &[]));
     /// let midpoint = Sampler::builder().bounds_rule(BoundsRule::Midpoint).build()?;
     /// assert_eq!(midpoint.save(), Err(FileRefusal::BadContent));
+    /// let mut ladder = Sampler::builder().build()?;
+    /// ladder.sample(&Distribution::int_log(1, 64), 0, &[])?;
+    /// assert_eq!(ladder.save(), Err(FileRefusal::BadContent));
     /// # Ok::<(), Box<dyn std::error::Error>>(())
     /// ```
     pub fn save(&self) -> Result<Vec<u8>, FileRefusal> {
@@ -115,7 +119,7 @@ impl Sampler {
     }
 
     /// The sampler that was saved: it goes on as that one would have. Its bounds rule is
-    /// [`BoundsRule::Clamp`](crate::BoundsRule::Clamp), as that one's was.
+    /// [`BoundsRule::Clamp`](crate::BoundsRule::Clamp) and it has no ladder, as that one had none.
     ///
     /// The history stays the caller's. It must still hold the results of the open generation's trials that were told
     /// before the save; a generation waits for a trial that is not told.

@@ -15,14 +15,14 @@ pub struct FloatDistribution {
     pub step: Option<f64>,
 }
 
-/// An Int distribution: `low..=high`, perhaps in steps from `low`.
+/// An Int distribution: `low..=high`, perhaps in steps from `low`, or a ladder.
 #[derive(Clone, Copy, Debug, PartialEq, Eq)]
 pub struct IntDistribution {
     /// The least setting.
     pub low: i64,
     /// The largest.
     pub high: i64,
-    /// Refused where true; it is here since the original has it.
+    /// Whether it is a ladder ([`Distribution::int_log`]), which has no step.
     pub log_scale: bool,
     /// The step, counted from `low`, where there is one.
     pub step: Option<i64>,
@@ -160,6 +160,46 @@ impl Distribution {
             high,
             log_scale: false,
             step: Some(step),
+        })
+    }
+
+    /// A ladder: an Int distribution with log scale, for numbers whose ratio matters and not their difference, such as
+    /// queue depths. `low` is at least 1 and `high` at most 2,147,483,648, and a ladder has no step:
+    /// [`Refusal::LogScale`](crate::Refusal::LogScale) otherwise.
+    ///
+    /// Its settings are its rungs, clamped to `low` and `high`: the whole parts of 2^(p/256), p being a position between
+    /// its inner bounds (0 to 1,536 for 1 to 64). From each number up to its double there are 256 positions, so that 1 is
+    /// drawn as often as 2 and 3 together, or 32 to 63. A whole number above 373 may be no rung: it is never a setting
+    /// then, unless it is `low` or `high`. include/emkhurtov.h has all of it, docs/GUIDE.md when to choose it.
+    ///
+    /// A sampler with a ladder cannot be saved yet ([`Sampler::save`](crate::Sampler::save)).
+    ///
+    /// ```
+    /// use emkhurtov::{Distribution, Refusal, Sampler};
+    /// // How many of 10,000 settings that are drawn at random are below 8?
+    /// let below_8 = |depth| {
+    ///     let mut sampler = Sampler::builder().build()?;
+    ///     sampler.sample(&depth, 0, &[])?;
+    ///     sampler.sample(&depth, 1, &[])?;
+    ///     let mut count = 0;
+    ///     for _ in 0..10_000 {
+    ///         // The only dimension has been asked for: what is asked for now is drawn.
+    ///         let setting = sampler.sample(&depth, 1, &[])?.setting;
+    ///         count += usize::from(setting.as_i64().expect("a whole number was asked for") < 8);
+    ///     }
+    ///     Ok::<_, Refusal>(count)
+    /// };
+    /// assert_eq!(below_8(Distribution::int_log(1, 64))?, 5_010);
+    /// assert_eq!(below_8(Distribution::int(1, 64))?, 1_056);
+    /// assert_eq!(below_8(Distribution::int_log(0, 64)), Err(Refusal::LogScale));
+    /// # Ok::<(), Refusal>(())
+    /// ```
+    pub fn int_log(low: i64, high: i64) -> Self {
+        Distribution::Int(IntDistribution {
+            low,
+            high,
+            log_scale: true,
+            step: None,
         })
     }
 

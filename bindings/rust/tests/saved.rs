@@ -204,6 +204,6 @@ fn refusals_say_why() {
     assert_eq!(
         garbage.to_string(),
         "refusal 13: what the file holds, or the state that is to be saved, is none that a sampler can have, or the \
-         state's bounds rule is midpoint"
+         state's bounds rule is midpoint or one of its dimensions is a ladder"
     );
 }
