@@ -2,11 +2,11 @@
 //! ../shared/docs/src beside the repository, or from the folder that ORACLE_RUST names. Nothing is
 //! changed but that the inner doc lines (`//!`) go, which may not stand in an included file.
 //!
-//! For set-ups with midpoint, which the Rust does not have, the functions of de.rs are laid out once more, with a call of
-//! src/midpoint.rs where crossover takes the mutant's entry. Set-ups with clamp never run them.
+//! For ladders and for set-ups with midpoint, which the Rust does not have, the functions of de.rs are laid out twice more: once as
+//! they are, over src/ladder.rs in the place of common.rs, and once over it with a call of src/midpoint.rs where crossover
+//! takes the mutant's entry. Calls under clamp that no ladder has a part in never run either.
 //!
-//! ORACLE_MUTANT=NAME applies the edit of that name in mutants.txt, for oracle/run mutants alone, and not to the
-//! functions for midpoint.
+//! ORACLE_MUTANT=NAME applies the edit of that name in mutants.txt, for oracle/run mutants alone, and not to these two.
 
 use std::path::{Path, PathBuf};
 use std::{env, fs, process};
@@ -60,11 +60,9 @@ fn main() {
         }
         write(&out, file, &text);
     }
-    write(
-        &out,
-        "sampler/midpoint.rs",
-        &for_midpoint(&read(&rust, "sampler/de.rs")),
-    );
+    let functions = functions(&read(&rust, "sampler/de.rs"));
+    write(&out, "sampler/ladder.rs", &functions);
+    write(&out, "sampler/midpoint.rs", &replaced(&functions, TAKEN, DRAWN_IN));
     let sampler = read(&rust, "sampler/mod.rs");
     write(&out, "sampler/trait.rs", &item(&sampler, "pub trait Sampler"));
     // The stand-in of src/lib.rs has the two fields that de.rs reads: see that they are still so.
@@ -99,14 +97,13 @@ fn write(out: &Path, file: &str, text: &str) {
     fs::write(path, text).unwrap();
 }
 
-/// The functions of de.rs for midpoint, over the types of the first copy.
-fn for_midpoint(text: &str) -> String {
+/// The functions of de.rs for a further copy, over the types of the first.
+fn functions(text: &str) -> String {
     let (_, functions) = text.split_at(only_place(text, FUNCTIONS));
-    let drawn_in = replaced(functions, TAKEN, DRAWN_IN);
     replaced(
-        &drawn_in,
+        functions,
         "impl Sampler for DESampler {",
-        "impl Sampler for Midpoint<'_> {",
+        "impl Sampler for Called<'_> {",
     )
 }
 

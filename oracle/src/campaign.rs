@@ -1,14 +1,15 @@
-//! A campaign. Its calls are the Rust's as it stands, but under midpoint, which the Rust does not have.
+//! A campaign. Its calls are the Rust's as it stands, but where a ladder has a part in one, and under midpoint: the Rust has
+//! neither.
 
 use std::collections::HashSet;
 
 use crate::distribution::Distribution;
 use crate::entries;
+use crate::ladder;
 use crate::midpoint::BoundsRule;
 use crate::param::ParamValue;
 use crate::reader::Plain;
-use crate::sampler::de::by_midpoint::Midpoint;
-use crate::sampler::de::{DESampler, DEStrategy};
+use crate::sampler::de::{DESampler, DEStrategy, by_ladder, by_midpoint};
 use crate::sampler::{CompletedTrial, Sampler};
 use crate::script::SetUp;
 
@@ -69,11 +70,13 @@ impl Campaign {
         }
     }
 
-    /// With clamp the Rust as it is; with midpoint the copy of its functions.
+    /// The Rust as it is, or a copy of its functions: under midpoint, or where a dimension or the lent distribution is a ladder.
     pub fn sample(&self, d: &Distribution, trial: u64, lent: &[CompletedTrial]) -> ParamValue {
+        let ladder = ladder::is_ladder(d) || ladder::among(&self.sampler.probe());
         match self.rule {
+            BoundsRule::Midpoint => by_midpoint::Called(&self.sampler).sample(d, trial, lent),
+            BoundsRule::Clamp if ladder => by_ladder::Called(&self.sampler).sample(d, trial, lent),
             BoundsRule::Clamp => self.sampler.sample(d, trial, lent),
-            BoundsRule::Midpoint => Midpoint(&self.sampler).sample(d, trial, lent),
         }
     }
 

@@ -9,8 +9,10 @@ use crate::distribution::Distribution;
 use crate::draws;
 use crate::entries;
 use crate::history::History;
+use crate::ladder;
 use crate::midpoint::BoundsRule;
 use crate::param::ParamValue;
+use crate::rungs;
 use crate::sampler::CompletedTrial;
 use crate::sampler::de::{DEStrategy, Probe};
 use crate::served::{count_random, count_served, is_choice};
@@ -65,7 +67,7 @@ impl Before {
         }
         if !p.active() {
             counts.discovered += 1;
-            count_random(d, answer, counts);
+            count_random(d, answer, self.word, counts);
             return;
         }
         if !self.active {
@@ -88,7 +90,7 @@ impl Before {
         } else {
             counts.later_calls += 1;
         }
-        count_served(&p, d, trial, answer, counts);
+        count_served(&p, d, trial, answer, self.word, counts);
         if !closes {
             counts.waiting += u64::from(self.active && self.open >= p.size());
             return;
@@ -114,7 +116,10 @@ impl Before {
         counts.closings += 1;
         counts.closings_first += u64::from(first);
         counts.closings_later += u64::from(!first);
-        counts.closings_midpoint += u64::from(c.rule == BoundsRule::Midpoint);
+        let midpoint = c.rule == BoundsRule::Midpoint;
+        counts.closings_midpoint += u64::from(midpoint);
+        counts.closings_ladder += u64::from(ladder::among(&p));
+        counts.closings_both += u64::from(midpoint && ladder::among(&p));
         counts.closings_unmade += u64::from(entries::has_unmade(&p));
         counts.closings_160 += u64::from(p.size() == 160);
         counts.closings_cleared += u64::from(c.cleared);
@@ -226,6 +231,9 @@ fn count_space(p: &Probe<'_>, counts: &mut Counts) {
     let differs = |i: &usize| p.entry_of(*i) < *i && !is_choice(p.distribution(*i));
     counts.mixed += u64::from((0..dims).any(|i| differs(&i)));
     for i in 0..dims {
+        if let Some(ends) = ladder::ends(p.distribution(i)) {
+            count_ends(ends, counts);
+        }
         let (equal, limit, steps) = match p.distribution(i) {
             Distribution::Float(d) => (
                 d.low == d.high,
@@ -244,6 +252,17 @@ fn count_space(p: &Probe<'_>, counts: &mut Counts) {
         counts.step_meets += u64::from(steps == Some(true));
         counts.step_misses += u64::from(steps == Some(false));
     }
+}
+
+/// A ladder's low and high: on a rung, or between two.
+fn count_ends((low, high): ladder::Ends, counts: &mut Counts) {
+    let on_rung = |number: i64| rungs::below(number) < rungs::below(number + 1);
+    counts.ladders += 1;
+    counts.ladders_from_1 += u64::from(low == ladder::LOWEST);
+    counts.ladders_whole += u64::from((low, high) == (ladder::LOWEST, ladder::HIGHEST));
+    counts.ladders_equal += u64::from(low == high);
+    counts.ladders_low_between += u64::from(!on_rung(low));
+    counts.ladders_high_between += u64::from(!on_rung(high));
 }
 
 /// The new candidates against the parents they come from.

@@ -1,5 +1,5 @@
-//! Runs a script through the Rust: one line in, its answer out. The two counters of `look`, the refusals and midpoint are
-//! written from documents 01 and 02, since the Rust has none of them.
+//! Runs a script through the Rust: one line in, its answer out. The two counters of `look`, the refusals, midpoint and ladders
+//! are written from documents 01 and 02, since the Rust has none of them.
 
 use std::io::{self, BufRead, Write};
 
@@ -12,6 +12,7 @@ use crate::entries;
 use crate::history::History;
 use crate::judge;
 use crate::kept::Kept;
+use crate::ladder;
 use crate::midpoint::{BoundsRule, Reading};
 use crate::sampler::de::{DESampler, Probe};
 use crate::script::{self, Command, SetUp};
@@ -28,6 +29,7 @@ pub struct Driver {
     pub(crate) history: History,
     pub(crate) reading: Reading,
     pub(crate) limits: entries::Reading,
+    pub(crate) ladders: ladder::Reading,
     kept: Kept,
     line: u64,
     pub counts: Counts,
@@ -177,9 +179,12 @@ impl Driver {
 
     fn save(&mut self, out: &mut Vec<u8>) -> Result<(), Malformed> {
         let c = self.campaign.as_ref().ok_or(Malformed)?;
-        if !self.reading.has_place(c.rule) {
-            self.counts.saves_midpoint += 1;
-            if !self.reading.file_stays() {
+        let rule_fits = self.reading.has_place(c.rule);
+        let dims_fit = self.ladders.has_place(&c.sampler.probe());
+        if !rule_fits || !dims_fit {
+            self.counts.saves_midpoint += u64::from(!rule_fits);
+            self.counts.saves_ladder += u64::from(!dims_fit);
+            if !rule_fits && !self.reading.file_stays() {
                 self.kept = Kept::default();
             }
             self.refuse(13, out);
@@ -209,7 +214,9 @@ impl Driver {
                 self.counts.restores_stateless += u64::from(self.campaign.is_none());
                 self.counts.restores_moved += u64::from(!self.kept.is_canonical());
                 let before = self.campaign.as_ref().map_or(BoundsRule::Clamp, |before| before.rule);
+                let ladder = self.probe().is_some_and(|p| ladder::among(&p));
                 self.counts.restores_midpoint += u64::from(before == BoundsRule::Midpoint);
+                self.counts.restores_ladder += u64::from(ladder);
                 c.rule = self.reading.restored(before);
                 c.restored = true;
                 c.limits = self.limits;
@@ -228,7 +235,7 @@ impl Driver {
     fn sample(&mut self, trial: u64, d: &Distribution, out: &mut Vec<u8>) -> Result<(), Malformed> {
         let c = self.campaign.as_mut().ok_or(Malformed)?;
         let p = c.sampler.probe();
-        if let Some(k) = judge::sample(&p, d, trial, &self.history) {
+        if let Some(k) = judge::sample(&p, d, trial, &self.history, self.ladders) {
             drop(p);
             self.refuse(k, out);
             return Ok(());
@@ -239,12 +246,14 @@ impl Driver {
         self.counts.nan_answered += u64::from(self.history.has_accepted_nan());
         self.counts.midpoint += u64::from(c.rule == BoundsRule::Midpoint);
         self.reading.take_effect();
+        self.ladders.take_effect();
         let answer = c.sample(d, trial, self.history.lent());
         before.compare(c, d, trial, &answer, &self.history, &mut self.counts);
         let draws = c.sampler.probe().draws() - before.draws;
         if draws > 0 {
             entries::assert_small(c, &mut self.counts);
         }
+        self.counts.laddered += u64::from(ladder::among(&c.sampler.probe()));
         self.counts.extreme += u64::from(c.f == 2.0 && entries::has_extreme_bounds(&c.sampler.probe()));
         answers::setting(&answer, out);
         out.push(b' ');

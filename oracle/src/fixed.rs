@@ -7,11 +7,12 @@ use crate::generate::exhaustive;
 use crate::generate::stream::{SHORT_FROM, Stream};
 
 /// The parts by hand. A comment `# by hand: refused K: WHY` says what the line after it must answer.
-const BY_HAND: [&str; 4] = [
+const BY_HAND: [&str; 5] = [
     include_str!("../refusals.script"),
     include_str!("../restarts.script"),
     include_str!("../midpoint.script"),
     include_str!("../extremes.script"),
+    include_str!("../ladder.script"),
 ];
 
 /// Before anything else: no file has been kept yet.
@@ -65,7 +66,7 @@ pub fn make(seed: u64) -> Result<Fixed, String> {
     pool.retain(|entry| entry.counts.refused == [0; 14]);
     choose(&mut pool);
     let mut script = format!(
-        "# Made by the oracle (docs/ORACLE.md): the answers up to the mark below are the Rust's, kept files by docs/SAVED.md, what midpoint makes of an entry by document 02. Seed {seed}.\n"
+        "# Made by the oracle (docs/ORACLE.md): the answers up to the mark below are the Rust's, kept files by docs/SAVED.md, what midpoint makes of an entry and what ladders are by document 02. Seed {seed}.\n"
     )
     .into_bytes();
     by_hand_is_so(NO_FILE)?;

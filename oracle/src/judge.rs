@@ -1,10 +1,11 @@
-//! The refusals 1 to 10. Written from document 01's table, not from the Rust, which has none of them: what is
-//! refused is never asked of the Rust, and the totals count it apart.
+//! The refusals 1 to 10. Written from document 01's table and document 02, not from the Rust, which has none of them: what
+//! is refused is never asked of the Rust, and the totals count it apart.
 
 use std::collections::HashSet;
 
 use crate::distribution::Distribution;
 use crate::history::History;
+use crate::ladder;
 use crate::sampler::CompletedTrial;
 use crate::sampler::de::Probe;
 use crate::script::SetUp;
@@ -43,6 +44,11 @@ pub fn set_up(s: &SetUp) -> Option<u8> {
 
 /// Refusals 4 to 7.
 pub fn distribution(d: &Distribution) -> Option<u8> {
+    distribution_by(ladder::RIGHT, d)
+}
+
+/// The same by a reading of which Ints with the log flag pass.
+fn distribution_by(ladders: ladder::Reading, d: &Distribution) -> Option<u8> {
     match d {
         Distribution::Float(d) => {
             let bad = |bound: f64| !bound.is_finite() || bound.abs() > FLOAT_LIMIT;
@@ -62,7 +68,7 @@ pub fn distribution(d: &Distribution) -> Option<u8> {
                 return Some(4);
             }
             if d.log_scale {
-                return Some(5);
+                return (!ladders.passes(d)).then_some(5);
             }
             d.step.is_some_and(|step| step <= 0 || bad(step)).then_some(6)
         }
@@ -77,8 +83,8 @@ pub fn has_all(history: &[CompletedTrial], trials: &[u64]) -> bool {
 }
 
 /// Refusals 4 to 10 of a sample call; 8 is for complete entries alone (document 02).
-pub fn sample(p: &Probe<'_>, d: &Distribution, trial: u64, history: &History) -> Option<u8> {
-    if let Some(k) = distribution(d) {
+pub fn sample(p: &Probe<'_>, d: &Distribution, trial: u64, history: &History, ladders: ladder::Reading) -> Option<u8> {
+    if let Some(k) = distribution_by(ladders, d) {
         return Some(k);
     }
     if history.is_bad() {

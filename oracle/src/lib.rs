@@ -2,8 +2,8 @@
 //! program `replay`. docs/ORACLE.md says what is compared and what is not.
 //!
 //! Five modules are the Rust's text (build.rs lays it out): `distribution`, `param`, `rng_util`,
-//! `sampler::common` and `sampler::de`. Everything else here was written for the comparison, `midpoint` with it, which
-//! the Rust does not have.
+//! `sampler::common` and `sampler::de`. Everything else here was written for the comparison, `midpoint` and `ladder` with
+//! it, which the Rust does not have.
 
 /// The Rust's distribution.rs.
 #[allow(clippy::all)]
@@ -51,15 +51,36 @@ pub mod sampler {
         include!(concat!(env!("OUT_DIR"), "/sampler/de.rs"));
         include!("probe.rs");
 
-        /// The functions of de.rs once more, for set-ups with midpoint: over the same private state, and the Rust's but for
-        /// `crate::midpoint`, which is called where crossover takes the mutant's entry.
+        /// The functions of de.rs once more, for calls that a ladder has a part in: over the same private state, and the
+        /// Rust's but for the three functions of common.rs, in whose place they call `crate::ladder`.
+        pub mod by_ladder {
+            use super::*;
+            use crate::ladder::{from_internal, internal_bounds, sample_random};
+
+            /// A sampler that is called through this copy.
+            pub struct Called<'a>(pub &'a DESampler);
+
+            impl std::ops::Deref for Called<'_> {
+                type Target = DESampler;
+
+                fn deref(&self) -> &DESampler {
+                    self.0
+                }
+            }
+
+            include!(concat!(env!("OUT_DIR"), "/sampler/ladder.rs"));
+        }
+
+        /// The same once more, for set-ups with midpoint: where crossover takes the mutant's entry it calls
+        /// `crate::midpoint` too.
         pub mod by_midpoint {
             use super::*;
+            use crate::ladder::{from_internal, internal_bounds, sample_random};
 
-            /// A sampler that is called under midpoint.
-            pub struct Midpoint<'a>(pub &'a DESampler);
+            /// A sampler that is called through this copy.
+            pub struct Called<'a>(pub &'a DESampler);
 
-            impl std::ops::Deref for Midpoint<'_> {
+            impl std::ops::Deref for Called<'_> {
                 type Target = DESampler;
 
                 fn deref(&self) -> &DESampler {
@@ -88,8 +109,10 @@ pub mod generate;
 pub mod history;
 pub mod judge;
 mod kept;
+pub mod ladder;
 pub mod midpoint;
 mod reader;
+pub mod rungs;
 mod saved;
 pub mod script;
 pub mod sections;
@@ -98,6 +121,8 @@ mod shrink;
 pub mod text;
 pub mod workers;
 
+#[cfg(test)]
+mod ladder_tests;
 #[cfg(test)]
 mod saved_tests;
 #[cfg(test)]

@@ -15,7 +15,7 @@ pub struct Record {
     pub words: [u64; 3],
 }
 
-/// The records of a sampler, in the writer's order: by kind, then by position.
+/// The records of a sampler with no ladder, in the writer's order: by kind, then by position.
 pub fn records(c: &Campaign) -> Vec<Record> {
     let p = c.sampler.probe();
     p.assert_hidden_part();

@@ -19,10 +19,10 @@ pub fn of(script: &[u8]) -> Vec<Vec<u8>> {
     all
 }
 
-/// A file is read before one is saved or made. Under midpoint none is saved.
+/// A file is read before one is saved or made. Under midpoint none is saved, nor with a ladder.
 fn needs_a_file(piece: &[u8]) -> bool {
-    let set_up = piece.split_inclusive(|&b| b == b'\n').next().unwrap_or_default();
-    let saves = !set_up.ends_with(b" midpoint\n");
+    let mut lines = piece.split_inclusive(|&b| b == b'\n');
+    let saves = !lines.any(|line| line.ends_with(b" midpoint\n") || line.ends_with(b" log -\n"));
     let says = |line: &[u8]| match line {
         b"restore\n" | b"bytes\n" => Some(true),
         b"save\n" if saves => Some(false),
@@ -37,10 +37,11 @@ fn needs_a_file(piece: &[u8]) -> bool {
 mod tests {
     #[test]
     fn a_kept_file_is_not_cut_off() {
-        let sections: [&[u8]; 5] = [
+        let sections: [&[u8]; 6] = [
             b"# x\n",
             b"new 1\nsave\nnew 2\nrestore\n",
             b"new 1\nsave\nnew 2 midpoint\nsave\nrestore\n",
+            b"new 1\nsave\nnew 2\nsample 1 int 1 64 log -\nsave\nbytes\n",
             b"new 3\nlook\n",
             b"new 4\nfile 1\nput 0 00\n",
         ];

@@ -2,6 +2,7 @@
 
 use crate::counts::Counts;
 use crate::distribution::Distribution;
+use crate::ladder::{self, Ends, Fault, RIGHT, Reading};
 use crate::param::ParamValue;
 use crate::sampler::de::Probe;
 
@@ -9,8 +10,14 @@ pub fn is_choice(d: &Distribution) -> bool {
     matches!(d, Distribution::Categorical(_))
 }
 
-/// An answer of `sample_random`.
-pub fn count_random(d: &Distribution, answer: &ParamValue, counts: &mut Counts) {
+/// An answer of `sample_random`, which is the call's only draw: from this word on.
+pub fn count_random(d: &Distribution, answer: &ParamValue, word: u64, counts: &mut Counts) {
+    if let Some(ends) = ladder::ends(d) {
+        counts.random_ladder += 1;
+        let drawn = |reading: Reading| reading.drawn(&mut fastrand::Rng::with_seed(word), ends);
+        counts.ladder_left_out += u64::from(drawn(Reading(Some(Fault::UpperLeftOut))) != drawn(RIGHT));
+        return;
+    }
     match (d, answer) {
         (Distribution::Float(d), ParamValue::Float(x)) if d.step.is_some() => {
             counts.random_float_step += 1;
@@ -27,25 +34,51 @@ pub fn count_random(d: &Distribution, answer: &ParamValue, counts: &mut Counts) 
 }
 
 /// Where the answer of a call after discovery came from.
-pub fn count_served(p: &Probe<'_>, d: &Distribution, trial: u64, answer: &ParamValue, counts: &mut Counts) {
+pub fn count_served(p: &Probe<'_>, d: &Distribution, trial: u64, answer: &ParamValue, word: u64, counts: &mut Counts) {
     let (place, next) = p.progress(trial).expect("the trial is open");
     let dim = next - 1;
     if dim >= p.dims() {
         counts.past += 1;
         counts.past_differs += u64::from((0..p.dims()).all(|i| p.distribution(i) != d));
-        count_random(d, answer, counts);
+        counts.past_ladder += u64::from(ladder::is_ladder(d));
+        count_random(d, answer, word, counts);
         return;
     }
     let stored = p.distribution(dim);
     counts.lent_differs += u64::from(stored != d);
     let kinds = std::mem::discriminant(stored) != std::mem::discriminant(d);
     counts.lent_kind_differs += u64::from(kinds);
+    counts.lent_no_ladder += u64::from(ladder::is_ladder(stored) && !ladder::is_ladder(d));
+    counts.lent_ladder += u64::from(ladder::is_ladder(d) && !ladder::is_ladder(stored));
     if is_choice(stored) {
         counts.decoded_choice += 1;
         return;
     }
     let entry = p.candidate(place).entries[p.entry_of(dim)];
-    count_decoded(stored, entry, answer, counts);
+    let Some(ends) = ladder::ends(stored) else {
+        return count_decoded(stored, entry, answer, counts);
+    };
+    // So clamping it first changes nothing. No file brings another: none has a ladder.
+    let (lower, upper) = p.bounds()[p.entry_of(dim)];
+    assert!(lower <= entry && entry <= upper, "an entry within the inner bounds");
+    count_ladder(ends, entry, counts);
+}
+
+/// A ladder's answer, and whether another reading of document 02 would have changed it.
+fn count_ladder(ends: Ends, entry: f64, counts: &mut Counts) {
+    let otherwise = |fault| Reading(Some(fault)).decoded(entry, ends) != RIGHT.decoded(entry, ends);
+    let (lower, upper) = RIGHT.inner_bounds(ends);
+    counts.decoded_ladder += 1;
+    counts.ladder_at_lower += u64::from(entry == lower as f64);
+    counts.ladder_at_upper += u64::from(entry == upper as f64);
+    counts.ladder_lower_up += u64::from(otherwise(Fault::LowerUp));
+    counts.ladder_upper_down += u64::from(otherwise(Fault::UpperDown));
+    counts.ladder_halves += u64::from(entry.fract() == 0.5);
+    let to_even = RIGHT.decoded(entry.round_ties_even(), ends);
+    counts.ladder_even += u64::from(to_even != RIGHT.decoded(entry, ends));
+    counts.ladder_cut_off += u64::from(otherwise(Fault::CutOff));
+    counts.ladder_nearest += u64::from(otherwise(Fault::Nearest));
+    counts.ladder_unclamped += u64::from(otherwise(Fault::Unclamped));
 }
 
 /// An answer decoded from an entry, and whether another way of rounding would have changed it.

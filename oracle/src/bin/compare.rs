@@ -1,6 +1,6 @@
 //! `compare [--seed S] [--calls C] [--malformed K] [--script FILE] [--oracle-fault NAME] PROGRAM`: the Rust and PROGRAM on
 //! the same scripts, byte by byte. Ends with status 1 at the first difference, of which it prints the script. With a fault in
-//! the oracle, in its generator or in its reading of an entry's state, of midpoint or of W8's limit, it must.
+//! the oracle, in its generator or in its reading of an entry's state, of midpoint, of W8's limit or of ladders, it must.
 
 use std::process::ExitCode;
 use std::time::Instant;
@@ -8,7 +8,7 @@ use std::time::Instant;
 use oracle::compare::{self, Outcome};
 use oracle::generate::malformed;
 use oracle::generate::stream::Stream;
-use oracle::{entries, history, midpoint, sections};
+use oracle::{entries, history, ladder, midpoint, sections};
 
 const USAGE: &str =
     "usage: compare [--seed S] [--calls C] [--malformed K] [--script FILE] [--oracle-fault NAME] PROGRAM";
@@ -52,6 +52,7 @@ fn make_faulty(word: &str) -> Option<()> {
     midpoint::CHOSEN
         .choose(&midpoint::FAULTS, word)
         .or_else(|| entries::CHOSEN.choose(&entries::FAULTS, word))
+        .or_else(|| ladder::CHOSEN.choose(&ladder::FAULTS, word))
         .or_else(|| history::CHOSEN.choose(&history::FAULTS, word))
 }
 
@@ -98,13 +99,16 @@ fn main() -> ExitCode {
     let c = &totals.counts;
     println!(
         "seed {}: {} sample calls ({} behind a restart) and {} generations closed: the same as the Rust's, {} and {} of them \
-         under midpoint, with document 02's reading of it in the Rust; {} refusals: the same as the tables'",
+         under midpoint and {} and {} with a ladder, with document 02's reading of these in the Rust; {} refusals: the same \
+         as the tables'",
         w.seed,
         c.calls,
         c.restarted,
         c.closings,
         c.midpoint,
         c.closings_midpoint,
+        c.laddered,
+        c.closings_ladder,
         c.refused.iter().sum::<u64>()
     );
     ExitCode::SUCCESS

@@ -4,6 +4,7 @@ use std::collections::HashMap;
 
 use super::dice::Dice;
 use super::distributions;
+use super::ladders;
 use super::plan::{Each, Numbers, Plan};
 use super::refused;
 use super::section::Section;
@@ -11,6 +12,7 @@ use super::values;
 use crate::distribution::Distribution;
 use crate::history::{Entry, State};
 use crate::judge;
+use crate::ladder;
 
 /// A trial that has not been told.
 struct Run {
@@ -146,7 +148,7 @@ impl Play<'_> {
     fn lent(&mut self, place: usize) -> Distribution {
         match self.s.dims.get(place) {
             Some(d) if !self.dice.percent(self.plan.chances.lent) => d.clone(),
-            _ => distributions::accepted(self.dice),
+            _ => ladders::or_another(self.dice),
         }
     }
 
@@ -263,8 +265,11 @@ impl Play<'_> {
                 _ => (),
             }
         }
+        let ladders = self.s.dims.iter().any(ladder::is_ladder);
         let d = if nan && self.dice.percent(70) {
-            distributions::accepted(self.dice)
+            ladders::or_another(self.dice)
+        } else if ladders && self.dice.percent(60) {
+            ladders::refused(self.dice)
         } else {
             refused::some(self.dice)
         };

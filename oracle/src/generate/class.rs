@@ -27,6 +27,8 @@ pub enum Class {
     Beyond,
     /// Bounds as large as they may be, F = 2, and kept files with entries past them: mutants are as large as they may be.
     Extreme,
+    /// Ladders, alone or beside other kinds.
+    Ladders,
     /// Refused calls between the others.
     Refusals,
 }
@@ -46,15 +48,17 @@ impl Class {
             Class::Rounding => "rounding at its edges",
             Class::Beyond => "midpoint, entries on the bounds and beyond them",
             Class::Extreme => "mutants as large as they may be",
+            Class::Ladders => "ladders, alone or beside other kinds",
             Class::Refusals => "refused calls between the others",
         }
     }
 }
 
 /// The classes in turn. Those whose generations close soonest come most often.
-pub const TURNS: [Class; 33] = [
+pub const TURNS: [Class; 37] = [
     Class::Quick,
     Class::Wide,
+    Class::Ladders,
     Class::Quick,
     Class::Beyond,
     Class::Small,
@@ -65,6 +69,7 @@ pub const TURNS: [Class; 33] = [
     Class::Refusals,
     Class::Quick,
     Class::Rate,
+    Class::Ladders,
     Class::Quick,
     Class::Rounding,
     Class::Discrete,
@@ -73,11 +78,13 @@ pub const TURNS: [Class; 33] = [
     Class::Quick,
     Class::Rounding,
     Class::Beyond,
+    Class::Ladders,
     Class::Long,
     Class::Extreme,
     Class::Quick,
     Class::Short,
     Class::Quick,
+    Class::Ladders,
     Class::Rate,
     Class::Small,
     Class::Refusals,

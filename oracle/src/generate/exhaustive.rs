@@ -1,8 +1,9 @@
-//! Short scripts without chance: N = 4, one dimension of each kind and one space with all three, every order in
+//! Short scripts without chance: N = 4, one dimension of each kind and one space of three kinds, every order in
 //! which the trials of the first generation start and finish, every order of their results with ties; and in some of
 //! them a restart after one of their calls.
 
 use super::distributions::{choice, float, int};
+use super::ladders::ladder;
 use super::section::Section;
 use crate::distribution::Distribution;
 use crate::midpoint::BoundsRule;
@@ -26,13 +27,14 @@ pub struct Case {
     pub ranks: [u8; 4],
 }
 
-/// The spaces: one dimension of each kind, and one of each together.
-pub fn spaces() -> [Vec<Distribution>; 6] {
+/// The spaces: one dimension of each kind, and three kinds together.
+pub fn spaces() -> [Vec<Distribution>; 7] {
     [
         vec![float(-1.0, 2.0, None)],
         vec![float(0.0, 1.0, Some(0.3))],
         vec![int(-5, 5, None)],
         vec![int(1, 11, Some(4))],
+        vec![ladder(3, 64)],
         vec![choice(5)],
         vec![choice(3), float(0.0, 1.0, Some(0.25)), int(0, 9, None)],
     ]
@@ -161,7 +163,7 @@ impl Case {
 }
 
 /// A call; where it is the one before the restart, a further call of another trial is lost with the reboot. With midpoint
-/// the save is refused, and there is no restart.
+/// or a ladder the save is refused, and there is no restart.
 fn call(s: &mut Section, restart_at: u64, trial: u64, d: &Distribution) {
     s.sample(trial, d);
     if s.calls == restart_at {
@@ -181,8 +183,8 @@ mod tests {
     fn the_family_is_whole() {
         assert_eq!(interleavings().len(), 105);
         assert_eq!(rankings().len(), 75);
-        assert_eq!(short().len(), 6 * 3 * 180);
-        assert_eq!(long().len(), 6 * 3 * 105 * 75);
+        assert_eq!(short().len(), 7 * 3 * 180);
+        assert_eq!(long().len(), 7 * 3 * 105 * 75);
     }
 
     #[test]

@@ -125,6 +125,7 @@ const LINES: &[&str] = &[
     "sample 1 int 0 5 lin 9223372036854775807",
     "sample 1 int 0 5 lin 9223372036854775808",
     "sample 1 int 0 5 log 1",
+    "sample 1 int 1 5 log -",
     "sample 1 Int 0 5 lin -",
     "sample -1 int 0 5 lin -",
     "sample 1 int 0 5 lin - # a comment",

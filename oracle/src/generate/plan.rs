@@ -4,6 +4,7 @@ use super::class::Class;
 use super::dice::Dice;
 use super::distributions;
 use super::exhaustive::STRATEGIES;
+use super::ladders;
 use super::values::{self, Values};
 use crate::distribution::Distribution;
 use crate::judge;
@@ -106,7 +107,7 @@ impl Plan {
             start: *dice.pick(&[1, 1, 0, 7, u64::MAX / 2]),
             hold: false,
             most_entries: dice.between(60, 300),
-            restarts: dice.percent(40),
+            restarts: dice.percent(50),
             damage: dice.percent(20),
             chances: Chances {
                 lent: *dice.pick(&[0, 10, 50]),
@@ -212,6 +213,17 @@ impl Plan {
                 // Parents that a file brought stay.
                 self.values = *dice.pick(&[self.values, Values::Rising]);
             }
+            Class::Ladders => {
+                self.setup.rule = *dice.pick(&[BoundsRule::Clamp, BoundsRule::Clamp, BoundsRule::Midpoint]);
+                self.setup.f = *dice.pick(&[self.setup.f, 0.5, 0.5, 1.0, 2.0]);
+                self.each = *dice.pick(&[Each::One, Each::All, Each::All, Each::More]);
+                self.generations = dice.between(8, 24) as u64;
+                self.workers = *dice.pick(&[1, 4, 5]);
+                self.chances.lent = *dice.pick(&[0, 10, 40]);
+                self.chances.refused = *dice.pick(&[0, 5]);
+                self.chances.slow = 0;
+                self.restarts = dice.percent(70);
+            }
             Class::Small | Class::Discrete => (),
         }
     }
@@ -224,16 +236,21 @@ fn dims(class: Class, dice: &mut Dice) -> Vec<Distribution> {
         Class::Big => *dice.pick(&[1, 2, 16]),
         Class::Rate => dice.between(2, 6),
         Class::Rounding | Class::Beyond | Class::Extreme => dice.between(1, 3),
+        Class::Ladders => *dice.pick(&[1, 1, 2, 3, 4]),
         Class::Wide | Class::Refusals => *dice.pick(&[16, 15, many]),
         Class::Discrete => dice.between(1, 5),
         Class::Short => dice.between(1, 16),
     };
     let continuous = class == Class::Rate || (class == Class::Big && dice.percent(50));
+    // In one plan in eight ladders stand among the others. No file holds their states, so they are not in more.
+    let ladders = dice.percent(12);
     let one = |dice: &mut Dice| match class {
+        Class::Ladders if dice.percent(70) => ladders::some(dice),
         Class::Discrete => distributions::some_choice(dice),
         Class::Rounding => distributions::rounding(dice),
         Class::Beyond => distributions::beyond(dice),
         Class::Extreme => distributions::extreme(dice),
+        _ if ladders && dice.percent(40) => ladders::some(dice),
         _ if continuous => distributions::continuous(dice),
         _ => distributions::accepted(dice),
     };
@@ -246,7 +263,7 @@ fn size(class: Class, dice: &mut Dice, dims: &[Distribution]) -> Option<u64> {
         Class::Big if dims.len() == 16 && dice.percent(50) => None,
         Class::Big => Some(judge::MOST_SLOTS),
         Class::Wide => *dice.pick(&[None, Some(0), Some(4), Some(5), Some(random)]),
-        Class::Quick | Class::Rounding | Class::Beyond | Class::Extras | Class::Refusals => {
+        Class::Quick | Class::Rounding | Class::Beyond | Class::Ladders | Class::Extras | Class::Refusals => {
             *dice.pick(&[Some(0), Some(3), Some(4), Some(5)])
         }
         Class::Extreme => *dice.pick(&[Some(0), Some(4), Some(5), Some(random)]),

@@ -2,15 +2,17 @@
 
 use super::dice::Dice;
 use super::distributions::{TOP, choice, float, int};
-use crate::distribution::{Distribution, FloatDistribution, IntDistribution};
+use super::ladders;
+use crate::distribution::{Distribution, FloatDistribution};
 use crate::judge;
 use crate::script::SetUp;
 
 /// A distribution, refused by 4 to 7.
 pub fn some(dice: &mut Dice) -> Distribution {
-    let mut d = match dice.below(3) {
+    let mut d = match dice.below(4) {
         0 => some_float(dice),
         1 => some_int(dice),
+        2 => ladders::refused(dice),
         _ => choice(*dice.pick(&[0, judge::MOST_CHOICES + 1, usize::MAX, 1 << 32])),
     };
     if dice.percent(20) {
@@ -70,7 +72,7 @@ fn some_float(dice: &mut Dice) -> Distribution {
 }
 
 fn some_int(dice: &mut Dice) -> Distribution {
-    match dice.below(3) {
+    match dice.below(2) {
         0 => {
             let (low, high) = *dice.pick(&[
                 (3, 2),
@@ -82,15 +84,6 @@ fn some_int(dice: &mut Dice) -> Distribution {
             ]);
             let step = *dice.pick(&[None, Some(1), Some(0)]);
             int(low, high, step)
-        }
-        1 => {
-            let step = *dice.pick(&[None, Some(2), Some(0)]);
-            Distribution::Int(IntDistribution {
-                low: 1,
-                high: 10,
-                log_scale: true,
-                step,
-            })
         }
         _ => {
             let step = *dice.pick(&[0, -1, TOP + 1, i64::MAX, i64::MIN]);

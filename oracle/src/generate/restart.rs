@@ -8,6 +8,7 @@ use super::plan::Plan;
 use super::refused;
 use super::values;
 use crate::kept::LONGEST_FILE;
+use crate::ladder;
 use crate::midpoint::BoundsRule;
 use crate::saved::RECORD;
 
@@ -89,7 +90,8 @@ impl Play<'_> {
             let number = self.new_number();
             self.call(number);
         }
-        if !same && other.rule == BoundsRule::Midpoint {
+        let midpoint = !same && other.rule == BoundsRule::Midpoint;
+        if midpoint || self.s.dims.iter().any(ladder::is_ladder) {
             // It is refused, and the file that is restored stays.
             self.s.save();
         }

@@ -7,6 +7,7 @@ use super::mark::Mark;
 use crate::distribution::Distribution;
 use crate::history::{Entry, State};
 use crate::judge;
+use crate::ladder;
 use crate::midpoint::BoundsRule;
 use crate::script::SetUp;
 use crate::text;
@@ -91,10 +92,10 @@ impl Section {
         self.alive = true;
     }
 
-    /// With midpoint it is refused, and the kept file stays.
+    /// With midpoint it is refused, and with a ladder; the kept file stays then.
     pub fn save(&mut self) {
         self.text.extend_from_slice(b"save\n");
-        if self.rule == BoundsRule::Midpoint {
+        if self.rule == BoundsRule::Midpoint || self.dims.iter().any(ladder::is_ladder) {
             return;
         }
         self.kept = Some(Mark {
