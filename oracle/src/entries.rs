@@ -121,7 +121,7 @@ mod tests {
     use super::*;
     use crate::compare::expected;
     use crate::driver::Driver;
-    use crate::generate::stream::Stream;
+    use crate::faults::tests::each_is_noticed;
 
     fn fits(fault: Option<Fault>, entry: f64) -> [bool; 2] {
         [Whose::Parent, Whose::Candidate].map(|whose| Reading(fault).fits(entry, whose))
@@ -194,12 +194,10 @@ mod tests {
     /// Each wrong reading is noticed by few calls.
     #[test]
     fn each_fault_is_noticed() {
-        for (name, fault) in FAULTS {
-            let mut faulty = Driver::default();
-            faulty.limits = Reading(Some(fault));
+        each_is_noticed(&FAULTS, |fault| {
             let mut driver = Driver::default();
-            let noticed = Stream::new(1, 10_000).any(|s| expected(&mut driver, &s) != expected(&mut faulty, &s));
-            assert!(noticed, "{name}");
-        }
+            driver.limits = Reading(Some(fault));
+            driver
+        });
     }
 }

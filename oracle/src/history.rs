@@ -178,9 +178,8 @@ impl History {
 #[cfg(test)]
 mod tests {
     use super::*;
-    use crate::compare::expected;
     use crate::driver::Driver;
-    use crate::generate::stream::Stream;
+    use crate::faults::tests::each_is_noticed;
 
     fn lent(fault: Option<Fault>, told: &[(f64, State)]) -> (Vec<f64>, bool) {
         let mut history = History::with(fault);
@@ -217,12 +216,10 @@ mod tests {
     /// Each wrong reading of an entry's state is noticed by few calls.
     #[test]
     fn each_fault_is_noticed() {
-        for (name, fault) in FAULTS {
-            let mut faulty = Driver::default();
-            faulty.history = History::with(Some(fault));
+        each_is_noticed(&FAULTS, |fault| {
             let mut driver = Driver::default();
-            let noticed = Stream::new(1, 10_000).any(|s| expected(&mut driver, &s) != expected(&mut faulty, &s));
-            assert!(noticed, "{name}");
-        }
+            driver.history = History::with(Some(fault));
+            driver
+        });
     }
 }

@@ -1,26 +1,18 @@
 //! The ladder by hand, from document 02, W9.
 
 use crate::compare::expected;
-use crate::distribution::{Distribution, IntDistribution};
+use crate::distribution::Distribution;
 use crate::driver::Driver;
+use crate::faults::tests::{each_is_noticed, none_shows_without};
 use crate::generate::distributions::float;
 use crate::generate::exhaustive::STRATEGIES;
-use crate::generate::stream::Stream;
+use crate::generate::ladders::log;
 use crate::judge;
 use crate::ladder::{Ends, FAULTS, Fault, HIGHEST, RIGHT, Reading, ends};
 use crate::param::ParamValue;
 use crate::rungs::{LAST, rung};
 use crate::sampler::de::{DESampler, by_ladder};
 use crate::sampler::{CompletedTrial, Sampler};
-
-fn log(low: i64, high: i64, step: Option<i64>) -> Distribution {
-    Distribution::Int(IntDistribution {
-        low,
-        high,
-        log_scale: true,
-        step,
-    })
-}
 
 /// R is 2 from p = 256 on, 3 from 406 on, 4 from 512 on, 63 from 1,531 on and 64 from 1,536 on; 7,935 is the last p below 2^31.
 #[test]
@@ -194,22 +186,10 @@ fn faulty(fault: Fault) -> Driver {
 /// Where no Int has the log flag the Rust runs as it stands, or for midpoint: no reading of ladders makes a difference.
 #[test]
 fn without_ladders_nothing_is_read() {
-    let linear = |script: &Vec<u8>| !script.windows(5).any(|word| word == b" log ");
-    for script in Stream::new(1, 10_000).filter(linear) {
-        let right = expected(&mut Driver::default(), &script);
-        for (name, fault) in FAULTS {
-            assert!(expected(&mut faulty(fault), &script) == right, "{name}");
-        }
-    }
+    none_shows_without(b" log ", &FAULTS, faulty);
 }
 
-/// Each wrong reading is noticed by few calls.
 #[test]
 fn each_fault_is_noticed() {
-    for (name, fault) in FAULTS {
-        let mut faulty = faulty(fault);
-        let mut driver = Driver::default();
-        let noticed = Stream::new(1, 10_000).any(|s| expected(&mut driver, &s) != expected(&mut faulty, &s));
-        assert!(noticed, "{name}");
-    }
+    each_is_noticed(&FAULTS, faulty);
 }

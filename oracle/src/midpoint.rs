@@ -132,9 +132,8 @@ impl Reading {
 #[cfg(test)]
 mod tests {
     use super::*;
-    use crate::compare::expected;
     use crate::driver::Driver;
-    use crate::generate::stream::Stream;
+    use crate::faults::tests::{each_is_noticed, none_shows_without};
 
     const TINY: f64 = 5e-324;
 
@@ -175,23 +174,11 @@ mod tests {
     /// Without midpoint the Rust runs as it stands: no reading of midpoint makes a difference.
     #[test]
     fn clamp_is_untouched() {
-        let by_clamp = |script: &Vec<u8>| !script.windows(10).any(|word| word == b" midpoint\n");
-        for script in Stream::new(1, 10_000).filter(by_clamp) {
-            let right = expected(&mut Driver::default(), &script);
-            for (name, fault) in FAULTS {
-                assert!(expected(&mut faulty(fault), &script) == right, "{name}");
-            }
-        }
+        none_shows_without(b" midpoint\n", &FAULTS, faulty);
     }
 
-    /// Each wrong reading is noticed by few calls.
     #[test]
     fn each_fault_is_noticed() {
-        for (name, fault) in FAULTS {
-            let mut faulty = faulty(fault);
-            let mut driver = Driver::default();
-            let noticed = Stream::new(1, 10_000).any(|s| expected(&mut driver, &s) != expected(&mut faulty, &s));
-            assert!(noticed, "{name}");
-        }
+        each_is_noticed(&FAULTS, faulty);
     }
 }

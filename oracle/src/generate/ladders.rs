@@ -7,7 +7,8 @@ use crate::judge;
 use crate::ladder::HIGHEST;
 use crate::rungs::{LAST, rung};
 
-fn log(low: i64, high: i64, step: Option<i64>) -> Distribution {
+/// An Int with the log flag.
+pub fn log(low: i64, high: i64, step: Option<i64>) -> Distribution {
     Distribution::Int(IntDistribution {
         low,
         high,

@@ -9,7 +9,7 @@ pub mod distributions;
 mod edges;
 pub mod exhaustive;
 pub mod exports;
-mod ladders;
+pub mod ladders;
 pub mod malformed;
 mod mark;
 pub mod plan;
