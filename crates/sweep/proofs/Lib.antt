@@ -1,0 +1,13 @@
+pub mod Axes
+pub mod Counted
+pub mod Digits
+pub mod Dimension
+pub mod EachAxis
+pub mod Gathering
+pub mod Listing
+pub mod Meaning
+pub mod Members
+pub mod Order
+pub mod Products
+pub mod Rows
+pub mod Values

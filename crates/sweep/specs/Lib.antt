@@ -1,0 +1,4 @@
+pub mod Axes
+pub mod Gathered
+pub mod Meaning
+pub mod Sweep
