@@ -1,6 +1,6 @@
-// The sampler for callers in C and Rust, whom `exports_c` gives it under the same names. The structs that cross are those of `edge` and `files`.
-// A call, an entry of its history or a set-up with a number that names no case answers kind 4; a state with one is not sound, and that is
-// refusal 0, or 13 where it is to be saved.
+// The sampler for callers in C and Rust, whom `exports_c` gives it under the same names. The structs that cross are those of `edge`, `files` and
+// `lists`. A call, an entry of its history, a set-up or a dimension to sweep with a number that names no case answers kind 4; a state with one is
+// not sound, and that is refusal 0, or 13 where it is to be saved.
 #![tactic(auto)]
 
 ghost use Rattle.std.specs.Prelude.{◌≡◌, length, map};
@@ -13,6 +13,7 @@ ghost use Rattle.edge.specs.Held.{held_at};
 ghost use Rattle.edge.specs.Internal.{internal_of};
 ghost use Rattle.files.specs.File.{save_answer, save_file};
 ghost use Rattle.files.specs.Read.{read_answer, read_history};
+ghost use Rattle.lists.specs.Sweeps.{sweep_answer, sweep_left};
 ghost use Rattle.exports.specs.Ceiling.{ceiling_at};
 ghost use Rattle.layout.specs.Marks.{marks};
 
@@ -31,6 +32,7 @@ use edge::trial::{DeCompletedTrial, all_known};
 use files::file::{DeFile, save_at};
 use files::read::{DeRead, read_into};
 use layout::marks::{DeMarks, marked};
+use lists::sweeps::{DeCount, sweep_at};
 use saved::read;
 use state::State;
 
@@ -157,6 +159,13 @@ pub fn de_read_history(text: &[u8], history: &mut [DeCompletedTrial]) -> DeRead
     ensures { (result ≡ read_answer text.now (length history.old)) × (history.new ≡ read_history text.now history.old) }
 {
     DeRead::from(read_into(text, history))
+}
+
+// Every combination of some dimensions' values and choices, into lent memory, which is as it was unless they are listed.
+pub fn de_sweep(dims: &[DeDistribution], out: &mut [i64]) -> DeCount
+    ensures { (result ≡ sweep_answer dims.now (length out.old)) × (out.new ≡ sweep_left dims.now out.old) }
+{
+    sweep_at(dims, out)
 }
 
 // The layout that the library has.

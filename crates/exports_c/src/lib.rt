@@ -1,5 +1,5 @@
 // The archive for callers in C and Rust (include/emkhurtov.h): each function of `exports` under its own name.
-// The ten stand twice, since a crate is a library or a static library and not both (docs/DECISIONS.md). A strategy is a number here,
+// The eleven stand twice, since a crate is a library or a static library and not both (docs/DECISIONS.md). A strategy is a number here,
 // since no enum can cross to C.
 #![tactic(auto)]
 
@@ -10,6 +10,7 @@ ghost use Rattle.edge.specs.Held.{held_at};
 ghost use Rattle.edge.specs.Internal.{internal_of};
 ghost use Rattle.files.specs.File.{save_answer, save_file};
 ghost use Rattle.files.specs.Read.{read_answer, read_history};
+ghost use Rattle.lists.specs.Sweeps.{sweep_answer, sweep_left};
 ghost use Rattle.exports.specs.Ceiling.{ceiling_at};
 ghost use Rattle.layout.specs.Marks.{marks};
 
@@ -21,6 +22,7 @@ use edge::trial::DeCompletedTrial;
 use files::file::DeFile;
 use files::read::DeRead;
 use layout::marks::DeMarks;
+use lists::sweeps::DeCount;
 
 #[unsafe(no_mangle)]
 pub extern "C" fn de_new(state: &mut DeState, setup: DeSetup) -> DeAnswer
@@ -87,6 +89,13 @@ pub extern "C" fn de_read_history(text: &[u8], history: &mut [DeCompletedTrial])
     ensures { (result ≡ read_answer text.now (length history.old)) × (history.new ≡ read_history text.now history.old) }
 {
     exports::de_read_history(text, history)
+}
+
+#[unsafe(no_mangle)]
+pub extern "C" fn de_sweep(dims: &[DeDistribution], out: &mut [i64]) -> DeCount
+    ensures { (result ≡ sweep_answer dims.now (length out.old)) × (out.new ≡ sweep_left dims.now out.old) }
+{
+    exports::de_sweep(dims, out)
 }
 
 #[unsafe(no_mangle)]

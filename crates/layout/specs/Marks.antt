@@ -14,6 +14,7 @@ use Rattle.edge.specs.declared.answers.DeAnswer.{DeAnswer}
 use Rattle.edge.specs.declared.answers.DeCall.{DeCall}
 use Rattle.files.specs.declared.file.DeFile.{DeFile}
 use Rattle.files.specs.declared.read.DeRead.{DeRead}
+use Rattle.lists.specs.declared.sweeps.DeCount.{DeCount}
 use Rattle.edge.specs.declared.flat.DeSetup.{DeSetup}
 use Rattle.edge.specs.declared.flat.DeDistribution.{DeDistribution}
 use Rattle.edge.specs.declared.flat.DeState.{DeState}
@@ -89,6 +90,9 @@ file_marks = record { kind = 1; refusal = 2; length = 3 }
 
 abbrev pub read_marks : DeRead
 read_marks = record { kind = 1; refusal = 2; count = 3; line = 4 }
+
+abbrev pub count_marks : DeCount
+count_marks = record { kind = 1; refusal = 2; count = 3 }
 
 -- ---- the state
 
@@ -169,4 +173,6 @@ marks =
       after_file = 10;
       read = read_marks;
       after_read = 11;
+      count = count_marks;
+      after_count = 12;
     }

@@ -6,9 +6,9 @@ ghost use Rattle.std.specs.Prelude.{◌≡◌, ◌-◌, ◌≤◌};
 ghost use Rattle.layout.specs.Marks.{ends, marked_state, marked_call, marks};
 
 use crate::numbered::{
-    answer_marks, at_ends, candidate_marks, completed_marks, distribution_marks, file_marks,
-    internal_marks, look_marks, member_marks, progress_marks, read_marks, setting_marks,
-    setup_marks,
+    answer_marks, at_ends, candidate_marks, completed_marks, count_marks, distribution_marks,
+    file_marks, internal_marks, look_marks, member_marks, progress_marks, read_marks,
+    setting_marks, setup_marks,
 };
 use candidates::Candidate;
 use edge::answers::{DeAnswer, DeCall};
@@ -18,6 +18,7 @@ use edge::look::DeLook;
 use edge::trial::DeCompletedTrial;
 use files::file::DeFile;
 use files::read::DeRead;
+use lists::sweeps::DeCount;
 use selection::blank_member;
 use state::TrialProgress;
 
@@ -46,6 +47,8 @@ pub struct DeMarks {
     pub after_file: u64,
     pub read: DeRead,
     pub after_read: u64,
+    pub count: DeCount,
+    pub after_count: u64,
 }
 
 // Blank items, but for the first and the last, which are marked alike.
@@ -115,5 +118,7 @@ pub fn marked() -> DeMarks
         after_file: 10,
         read: read_marks(),
         after_read: 11,
+        count: count_marks(),
+        after_count: 12,
     }
 }

@@ -1,7 +1,7 @@
 // The small structs that cross, each with its own fields numbered from 1 on in the order of declaration (specs/Marks).
 // Each is a literal that names every field of a C struct. None takes its rest from a blank of `edge`: every value here is another.
 ghost use Rattle.std.specs.Prelude.{◌≡◌, ◌-◌, ◌≤◌};
-ghost use Rattle.layout.specs.Marks.{ends, setup_marks, distribution_marks, candidate_marks, member_marks, progress_marks, look_marks, answer_marks, setting_marks, internal_marks, completed_marks, file_marks, read_marks};
+ghost use Rattle.layout.specs.Marks.{ends, setup_marks, distribution_marks, candidate_marks, member_marks, progress_marks, look_marks, answer_marks, setting_marks, internal_marks, completed_marks, file_marks, read_marks, count_marks};
 
 use candidates::Candidate;
 use edge::answers::DeAnswer;
@@ -12,6 +12,7 @@ use edge::trial::DeCompletedTrial;
 use evolution::Member;
 use files::file::DeFile;
 use files::read::DeRead;
+use lists::sweeps::DeCount;
 use state::TrialProgress;
 
 // Blank items, but for the first and the last.
@@ -168,5 +169,15 @@ pub fn read_marks() -> DeRead
         refusal: 2,
         count: 3,
         line: 4,
+    }
+}
+
+pub fn count_marks() -> DeCount
+    ensures { result ≡ count_marks }
+{
+    DeCount {
+        kind: 1,
+        refusal: 2,
+        count: 3,
     }
 }
