@@ -11,6 +11,7 @@ mod rounded;
 mod scan;
 mod show;
 mod summed;
+mod sweeps;
 mod work;
 
 use std::rt::Env;

@@ -1,11 +1,13 @@
-// The figures: at N = 160 with 16 dimensions, at N = 20 with 2, of a long history, and of rounding and ladders by themselves.
+// The figures: at N = 160 with 16 dimensions, at N = 20 with 2, of a long history, and of rounding, ladders and sweeps by themselves.
 use crate::campaign::{open, trials, with_midpoint};
 use crate::closings::best_closing;
 use crate::ladders::{best_bounds, best_decoding};
 use crate::rounded::best_rounding;
 use crate::scan::scan;
 use crate::show::{expect, hundredfold, ratio, time};
+use crate::sweeps::{best_sweep, choice, whole};
 use crate::work::{best, copies};
+use distribution::DimensionInfo;
 use state::State;
 use std::rt::Env;
 use std::time::Clock;
@@ -71,6 +73,45 @@ fn ladders_alone(rt: &(impl Clock + Print), seed: u64) -> io::Result<()> {
     time(rt, "ladder-bounds", "", hundredfold(bounds.ns, 1000))
 }
 
+// A sweep of some dimensions: all of it, and a number of its list. `count` combinations are expected, and the sum of their numbers.
+fn swept(
+    rt: &(impl Alloc + Clock + Print),
+    size: &str,
+    dims: &[DimensionInfo],
+    count: usize,
+    sum: i64,
+) -> io::Result<()> {
+    let s = best_sweep(rt, dims)?;
+    expect(rt, s.count == count && s.sum == sum)?;
+    time(rt, "sweep", size, hundredfold(s.ns, 1))?;
+    time(
+        rt,
+        "sweep-number",
+        size,
+        hundredfold(s.ns, count.saturating_mul(dims.len()) as u64),
+    )
+}
+
+// Of 16 dimensions half of the numbers are 1. Of three, each of 3 choices stands 20,000 times, each of 100 values of the second 600 times and each
+// of 200 of the third 300 times. Of one it is 1 to 65,536. The seed is 2, which the compiler does not know.
+fn sweeps_alone(rt: &(impl Alloc + Clock + Print), seed: u64) -> io::Result<()> {
+    swept(rt, "-16", &[choice(seed); 16], 65536, 524288)?;
+    let two = (seed % 3) as i64;
+    let step = 10 * two;
+    swept(
+        rt,
+        "-3",
+        &[
+            choice(3),
+            whole(step, 2000, Some(step)),
+            whole(1, 200, None),
+        ],
+        60000,
+        66690000,
+    )?;
+    swept(rt, "-1", &[whole(two - 1, 65536, None)], 65536, 2147516416)
+}
+
 // The seed is how many arguments there are: 2, which the compiler does not know.
 pub fn measure(rt: &(impl Alloc + Clock + Env + Print)) -> io::Result<()> {
     let seed = env::args(rt)?.len() as u64;
@@ -79,5 +120,6 @@ pub fn measure(rt: &(impl Alloc + Clock + Env + Print)) -> io::Result<()> {
     lines(rt, "-20-2", figures_of(rt, open(seed, 2, 22), 20)?)?;
     long_history(rt, state)?;
     rounding_alone(rt, seed)?;
-    ladders_alone(rt, seed)
+    ladders_alone(rt, seed)?;
+    sweeps_alone(rt, seed)
 }

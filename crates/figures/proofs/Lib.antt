@@ -1,3 +1,4 @@
 pub mod Ladder
 pub mod Midpoint
+pub mod Sweep
 pub mod Table
