@@ -1,10 +1,10 @@
 /* The differential evolution sampler for C callers. Link with libemkhurtov.a (lib/x86_64-linux, or by pkg-config).
  *
- * The functions de_new, de_sample, de_look, de_slot_setting, de_save, de_restore, de_read_history, de_to_internal and
- * de_draw_ceiling are the proved code itself (crates/exports); what each promises stands beside it and is proved there
- * for every memory content and every argument. They take references, so a pointer that they are given must be valid.
- * The functions de_checked_* below test what a pointer's callers get wrong (null, too short, misaligned, overlapping)
- * and then call them.
+ * The functions de_new, de_sample, de_look, de_slot_setting, de_save, de_restore, de_read_history, de_sweep,
+ * de_to_internal and de_draw_ceiling are the proved code itself (crates/exports); what each promises stands beside it
+ * and is proved there for every memory content and every argument. They take references, so a pointer that they are
+ * given must be valid. The functions de_checked_* below test what a pointer's callers get wrong (null, too short,
+ * misaligned, overlapping) and then call them.
  *
  * Numbers stand for cases; a number that names no case is answered, never guessed at. Nothing here allocates, locks, or
  * keeps anything between calls: a state is all there is, the caller owns it, and two states never touch each other.
@@ -21,9 +21,9 @@
 extern "C" {
 #endif
 
-#define DE_VERSION "0.10.0"
+#define DE_VERSION "0.11.0"
 #define DE_VERSION_MAJOR 0
-#define DE_VERSION_MINOR 10
+#define DE_VERSION_MINOR 11
 #define DE_VERSION_PATCH 0
 
 /* The version of the library that is linked: DE_VERSION, where it is this header's. Where it is another, do not call,
@@ -31,7 +31,7 @@ extern "C" {
  * it the state: a checked function that is lent the size of the old one answers DE_SHORT_BUFFER; no other call sees it.
  * In 0.9.0 no struct has changed: refusal 11 (DE_ENTRY_NAN) is gone, and a state with an entry over 4e300 in size is
  * refused (DeState). In 0.10.0 no struct has changed: an Int with log scale is taken as a ladder (DeDistribution),
- * where it was refused by DE_LOG_SCALE. */
+ * where it was refused by DE_LOG_SCALE. In 0.11.0 de_sweep is new, and no struct has changed but DeMarks. */
 const char *de_version(void);
 
 enum {
@@ -41,8 +41,9 @@ enum {
     DE_MAX_EXTRA = 64,
     DE_MAX_TRIALS = 224, /* DE_MAX_POPULATION + DE_MAX_EXTRA */
     DE_MAX_CHOICES = 65535,
-    DE_MAX_DRAWS = 494080, /* of one call: DE_MAX_POPULATION x (3,072 + DE_MAX_DIMENSIONS) */
-    DE_MAX_FILE = 73120    /* bytes of the largest saved file */
+    DE_MAX_DRAWS = 494080,      /* of one call: DE_MAX_POPULATION x (3,072 + DE_MAX_DIMENSIONS) */
+    DE_MAX_FILE = 73120,        /* bytes of the largest saved file */
+    DE_MAX_COMBINATIONS = 65536 /* of one sweep */
 };
 #define DE_MAX_REAL 1e300                      /* the largest Float bound */
 #define DE_MAX_WHOLE INT64_C(9007199254740992) /* 2^53, the largest Int bound and step */
@@ -58,14 +59,16 @@ enum {
     DE_FLOAT = 1,   /* the setting is `real` */
     DE_INT = 2,     /* the setting is `whole` */
     DE_CHOICE = 3,  /* the setting is `choice`, counted from 0 */
-    DE_UNKNOWN = 4, /* a number in the call, set-up, setting or history names no case; before every refusal */
+    DE_UNKNOWN = 4, /* a number in the call, set-up, setting, history or a sweep's dimensions names no case; before
+                     * every refusal */
     DE_MADE = 5,    /* the state is set up */
     DE_NOTHING = 6, /* there is no such slot or dimension yet */
     DE_NULL_POINTER = 16,
     DE_SHORT_BUFFER = 17, /* the memory is smaller than DeState */
     DE_MISALIGNED = 18,
     DE_LAYOUT = 19,     /* the checked functions and the proved code do not lay out the structs alike */
-    DE_OVERLAPPING = 20 /* the lent file and the state's memory, or the text and the history, have a byte in common */
+    DE_OVERLAPPING = 20 /* two pieces of lent memory have a byte in common: a file and a state, a text and a history, a
+                         * sweep's dimensions and its list */
 };
 
 /* The kinds of a look. */
@@ -86,6 +89,9 @@ enum {
 
 /* The kind of a DeRead, beside DE_REFUSED and those from 16 on. */
 enum { DE_READ = 1 }; /* the history's first `count` places are the entries of the export */
+
+/* The kind of a DeCount, beside DE_REFUSED, DE_UNKNOWN and those from 16 on. */
+enum { DE_LISTED = 1 }; /* the first `count` x n places of the lent memory are all combinations */
 
 /* Why a call was refused. */
 enum {
@@ -109,7 +115,10 @@ enum {
                           * is a ladder, for which a file has no place yet */
     /* Of metrics exports alone. */
     DE_MALFORMED_LINE = 14, /* a line is malformed; `line` is the number of the first such line, from 1 */
-    DE_SHORT_HISTORY = 15   /* every line is well, and the lent history has fewer places than there are entries */
+    DE_SHORT_HISTORY = 15,  /* every line is well, and the lent history has fewer places than there are entries */
+    /* Of sweeps alone; kinds have these numbers too, and mean something else. */
+    DE_UNSWEEPABLE = 16, /* no dimension, more than DE_MAX_DIMENSIONS, or one that is a Float or a ladder */
+    DE_TOO_MANY = 17     /* more combinations than DE_MAX_COMBINATIONS, or than the lent memory holds */
 };
 
 /* What a refusal says, in a sentence without its number; of a number that is no refusal, that it is none. */
@@ -267,6 +276,12 @@ typedef struct DeRead {
     uint64_t line;  /* DE_MALFORMED_LINE: the line's number, from 1; else 0 */
 } DeRead;
 
+typedef struct DeCount {
+    uint64_t kind; /* DE_REFUSED, DE_LISTED or DE_UNKNOWN; of the checked function also one of the kinds from 16 on */
+    uint64_t refusal;
+    uint64_t count; /* DE_LISTED: how many combinations there are; else 0 */
+} DeCount;
+
 /* Sets up *state: DE_MADE; or DE_REFUSED by DE_MUTATION_FACTOR, DE_CROSSOVER_RATE or DE_POPULATION_SIZE, the first that
  * applies; or DE_UNKNOWN where `strategy`, `sized` or `bounds_rule` names no case. Unless it is DE_MADE, *state is as
  * it was. */
@@ -331,6 +346,29 @@ DeFile de_restore(DeState *state, const uint8_t *file, size_t length);
  * it. */
 DeRead de_read_history(const uint8_t *text, size_t length, DeCompletedTrial *history, size_t places);
 
+/* Lists every combination of the settings of n dimensions, each of which is a choice or an Int without log scale:
+ * DE_LISTED with their count. Each combination stands once, in n numbers side by side, one for each dimension: a whole
+ * number itself, or a choice from 0. Combination i is at places i x n to i x n + n - 1 of `out`. The last dimension
+ * changes fastest, so the list rises: of two combinations that one stands first which has the smaller number in the
+ * first dimension where they differ. No place past these count x n is touched.
+ *
+ * - Choices rise from 0. The values of an Int rise from low by the step, or by 1 without one, and never pass high.
+ * - A high that no step meets is left out, though the entries of a campaign's candidates can be decoded to it: Int 1 to
+ *   11 by 4 has 1, 5 and 9 in the list, and 11 too in a campaign.
+ * - A Float has no list. Take an Int in its place that counts its steps, or whose values are places in a table of your
+ *   own.
+ *
+ * Or DE_UNKNOWN where the `kind` of any dimension, or the `log_scale` or `stepped` of a Float or an Int, names no case.
+ * Or DE_REFUSED: by the refusal from DE_BOUNDS to DE_CHOICES of the first dimension that has one, of all n, also behind
+ * the 16th (which one it was, a call for each dimension alone says, with `room` 0); then by DE_UNSWEEPABLE where n is 0
+ * or over DE_MAX_DIMENSIONS, or a dimension is a Float or a ladder; then by DE_TOO_MANY where there are more than
+ * DE_MAX_COMBINATIONS, or `room` is less than count x n. Unless it is DE_LISTED, `out` is as it was.
+ *
+ * `room` counts numbers, not bytes. DE_MAX_COMBINATIONS x n are always enough, 8 MB at most (so not on a small stack):
+ * with so many DE_TOO_MANY says that there are more combinations than DE_MAX_COMBINATIONS. No refusal says how many
+ * there are. The memory of `dims` and that of `out` must not overlap. */
+DeCount de_sweep(const DeDistribution *dims, size_t n, int64_t *out, size_t room);
+
 /* The double that a setting stands for; refusals 4 to 7 of the distribution, DE_LOG_SCALE for a ladder too, and
  * DE_BOUNDS for an Int setting past 2^53; 0.0 where the kinds differ. */
 DeInternal de_to_internal(DeDistribution distribution, DeSetting setting);
@@ -382,6 +420,8 @@ typedef struct DeMarks {
     uint64_t after_file;
     DeRead read;
     uint64_t after_read;
+    DeCount count;
+    uint64_t after_count;
 } DeMarks;
 
 DeMarks de_marks(void);
@@ -403,6 +443,8 @@ DeFile de_checked_save(const void *memory, size_t size, void *file, size_t room)
 DeFile de_checked_restore(void *memory, size_t size, const void *file, size_t length);
 /* An empty text may be a null pointer, and so may a history of no places. */
 DeRead de_checked_read_history(const void *text, size_t length, DeCompletedTrial *history, size_t places);
+/* No dimensions may be a null pointer, and so may a list of no places. */
+DeCount de_checked_sweep(const DeDistribution *dims, size_t n, int64_t *out, size_t room);
 
 #ifdef __cplusplus
 }

@@ -127,21 +127,21 @@ static void states(void) {
     EXPECT(de_checked_sample(&state, sizeof state, &call, NULL, 0).kind == DE_FLOAT);
 }
 
-/* The one number of 0 to 15 that no refusal has. */
+/* The one number of 0 to 17 that no refusal has. */
 enum { UNUSED = 11 };
 
 static void words(void) {
     char numbers[40];
     snprintf(numbers, sizeof numbers, "%d.%d.%d", DE_VERSION_MAJOR, DE_VERSION_MINOR, DE_VERSION_PATCH);
     EXPECT(strcmp(de_version(), DE_VERSION) == 0 && strcmp(numbers, DE_VERSION) == 0);
-    for (uint64_t i = 0; i <= DE_SHORT_HISTORY; i++) {
-        for (uint64_t j = i + 1; j <= DE_SHORT_HISTORY + 1; j++) {
-            int neither_is = i == UNUSED && j == DE_SHORT_HISTORY + 1;
+    for (uint64_t i = 0; i <= DE_TOO_MANY; i++) {
+        for (uint64_t j = i + 1; j <= DE_TOO_MANY + 1; j++) {
+            int neither_is = i == UNUSED && j == DE_TOO_MANY + 1;
             EXPECT((strcmp(de_refusal_text(i), de_refusal_text(j)) == 0) == neither_is);
         }
     }
     EXPECT(strcmp(de_refusal_text(UNUSED), "no refusal has this number") == 0);
-    EXPECT(strcmp(de_refusal_text(DE_SHORT_HISTORY + 1), de_refusal_text(UINT64_MAX)) == 0);
+    EXPECT(strcmp(de_refusal_text(DE_TOO_MANY + 1), de_refusal_text(UINT64_MAX)) == 0);
 }
 
 static void defaults(void) {

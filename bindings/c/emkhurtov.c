@@ -11,7 +11,7 @@ _Static_assert(offsetof(DeState, parents) == 37216 && offsetof(DeState, n_trials
 _Static_assert(offsetof(DeState, idle) == 67708 && sizeof(DeState) == 67712, "layout");
 _Static_assert(sizeof(DeCall) == 88 && sizeof(DeAnswer) == 48 && sizeof(DeLook) == 1328, "layout");
 _Static_assert(sizeof(DeSetting) == 32 && sizeof(DeInternal) == 24 && sizeof(DeFile) == 24, "layout");
-_Static_assert(sizeof(DeRead) == 32, "layout");
+_Static_assert(sizeof(DeRead) == 32 && sizeof(DeCount) == 24, "layout");
 
 const char *de_version(void) {
     return DE_VERSION;
@@ -36,6 +36,8 @@ const char *de_refusal_text(uint64_t refusal) {
                            "the state's bounds rule is midpoint or one of its dimensions is a ladder",
         [DE_MALFORMED_LINE] = "a line of the metrics export is malformed",
         [DE_SHORT_HISTORY] = "the lent history has fewer places than the metrics export has entries",
+        [DE_UNSWEEPABLE] = "there is no dimension, there are more than 16, or one is a Float or a ladder",
+        [DE_TOO_MANY] = "there are more combinations than 65,536, or than the lent memory holds",
     };
     /* 11 is within the table and has no text. */
     const char *text = refusal < sizeof texts / sizeof *texts ? texts[refusal] : NULL;
@@ -104,6 +106,10 @@ static int marked_read(const DeRead *r) {
     return r->kind == 1 && r->refusal == 2 && r->count == 3 && r->line == 4;
 }
 
+static int marked_count(const DeCount *c) {
+    return c->kind == 1 && c->refusal == 2 && c->count == 3;
+}
+
 int de_layout_agrees(void) {
     DeMarks m = de_marks();
     return marked_setup(&m.setup) && m.after_setup == 1 && marked_distribution(&m.distribution) &&
@@ -112,7 +118,7 @@ int de_layout_agrees(void) {
            m.after_look == 5 && marked_setting(&m.setting) && m.after_setting == 6 && marked_internal(&m.internal) &&
            m.after_internal == 7 && marked_trial(&m.trial) && m.after_trial == 8 && marked_state(&m.state) &&
            m.after_state == 9 && marked_file(&m.file) && m.after_file == 10 && marked_read(&m.read) &&
-           m.after_read == 11;
+           m.after_read == 11 && marked_count(&m.count) && m.after_count == 12;
 }
 
 /* 0 where the memory can hold a state, else the kind of answer that says why not. */
@@ -170,6 +176,11 @@ static int overlap(const void *one, size_t size, const void *other, size_t lengt
     return size != 0 && length != 0 && (b < a ? a - b < length : b - a < size);
 }
 
+/* How many bytes so many places are. No memory has more than SIZE_MAX, whatever their count says. */
+static size_t bytes(size_t places, size_t size) {
+    return places <= SIZE_MAX / size ? places * size : SIZE_MAX;
+}
+
 /* 0 where the memory can hold a state and the file stands beside it, else the kind of answer that says why not. */
 static uint64_t unfit_with(const void *memory, size_t size, const void *file, size_t length) {
     uint64_t kind = file == NULL && length != 0 ? DE_NULL_POINTER : unfit(memory, size);
@@ -196,8 +207,7 @@ DeFile de_checked_restore(void *memory, size_t size, const void *file, size_t le
 DeRead de_checked_read_history(const void *text, size_t length, DeCompletedTrial *history, size_t places) {
     static const uint8_t no_text;
     DeCompletedTrial no_place = {0};
-    /* No memory has more bytes than SIZE_MAX, whatever the count of places says. */
-    size_t size = places <= SIZE_MAX / sizeof *history ? places * sizeof *history : SIZE_MAX;
+    size_t size = bytes(places, sizeof *history);
     DeRead answer = {0};
     if ((text == NULL && length != 0) || (history == NULL && places != 0)) {
         answer.kind = DE_NULL_POINTER;
@@ -212,4 +222,23 @@ DeRead de_checked_read_history(const void *text, size_t length, DeCompletedTrial
         return answer;
     }
     return de_read_history(text == NULL ? &no_text : text, length, history == NULL ? &no_place : history, places);
+}
+
+DeCount de_checked_sweep(const DeDistribution *dims, size_t n, int64_t *out, size_t room) {
+    static const DeDistribution no_dimension;
+    int64_t no_place = 0;
+    DeCount answer = {0};
+    if ((dims == NULL && n != 0) || (out == NULL && room != 0)) {
+        answer.kind = DE_NULL_POINTER;
+    } else if ((uintptr_t)dims % _Alignof(DeDistribution) != 0 || (uintptr_t)out % _Alignof(int64_t) != 0) {
+        answer.kind = DE_MISALIGNED;
+    } else if (overlap(dims, bytes(n, sizeof *dims), out, bytes(room, sizeof *out))) {
+        answer.kind = DE_OVERLAPPING;
+    } else if (!de_layout_agrees()) {
+        answer.kind = DE_LAYOUT;
+    }
+    if (answer.kind != 0) {
+        return answer;
+    }
+    return de_sweep(dims == NULL ? &no_dimension : dims, n, out == NULL ? &no_place : out, room);
 }

@@ -26,10 +26,14 @@ pub const RESTORED: u64 = 2;
 
 pub const READ: u64 = 1;
 
+pub const LISTED: u64 = 1;
+
 pub const BAD_FILE: u64 = 12;
 pub const BAD_CONTENT: u64 = 13;
 pub const MALFORMED_LINE: u64 = 14;
 pub const SHORT_HISTORY: u64 = 15;
+pub const UNSWEEPABLE: u64 = 16;
+pub const TOO_MANY: u64 = 17;
 
 #[repr(C)]
 #[derive(Clone, Copy)]
@@ -163,6 +167,14 @@ pub struct DeRead {
     pub line: u64,
 }
 
+#[repr(C)]
+#[derive(Clone, Copy)]
+pub struct DeCount {
+    pub kind: u64,
+    pub refusal: u64,
+    pub count: u64,
+}
+
 /// `CompletedTrial` in numbers: a mark is none of its states.
 #[repr(C)]
 #[derive(Clone, Copy)]
@@ -197,6 +209,8 @@ pub struct DeMarks {
     pub after_file: u64,
     pub read: DeRead,
     pub after_read: u64,
+    pub count: DeCount,
+    pub after_count: u64,
 }
 
 unsafe extern "C" {
@@ -208,6 +222,7 @@ unsafe extern "C" {
     pub fn de_save(state: *const DeState, file: *mut u8, room: usize) -> DeFile;
     pub fn de_restore(state: *mut DeState, file: *const u8, length: usize) -> DeFile;
     pub fn de_read_history(text: *const u8, length: usize, history: *mut CompletedTrial, places: usize) -> DeRead;
+    pub fn de_sweep(dims: *const DeDistribution, n: usize, out: *mut i64, room: usize) -> DeCount;
     pub safe fn de_to_internal(distribution: DeDistribution, setting: DeSetting) -> DeInternal;
     pub safe fn de_draw_ceiling(n: u64, n_dims: u64, strategy: u64) -> u64;
     pub safe fn de_marks() -> DeMarks;

@@ -16,7 +16,7 @@ const _: () = {
     assert!(offset_of!(DeState, idle) == 67708 && size_of::<DeState>() == 67712);
     assert!(size_of::<DeCall>() == 88 && size_of::<DeAnswer>() == 48 && size_of::<DeLook>() == 1328);
     assert!(size_of::<DeSetting>() == 32 && size_of::<DeInternal>() == 24 && size_of::<DeFile>() == 24);
-    assert!(size_of::<DeRead>() == 32);
+    assert!(size_of::<DeRead>() == 32 && size_of::<DeCount>() == 24);
     // A history crosses as it is: field for field the library's entries, and the states are the header's numbers.
     assert!(size_of::<DeCompletedTrial>() == size_of::<CompletedTrial>());
     assert!(offset_of!(DeCompletedTrial, number) == offset_of!(CompletedTrial, number));
@@ -151,6 +151,12 @@ impl Marked for DeRead {
     }
 }
 
+impl Marked for DeCount {
+    fn marked(&self) -> bool {
+        [self.kind, self.refusal, self.count] == [1, 2, 3]
+    }
+}
+
 impl Marked for DeMarks {
     fn marked(&self) -> bool {
         (self.setup.marked() && self.after_setup == 1)
@@ -164,6 +170,7 @@ impl Marked for DeMarks {
             && (self.state.marked() && self.after_state == 9)
             && (self.file.marked() && self.after_file == 10)
             && (self.read.marked() && self.after_read == 11)
+            && (self.count.marked() && self.after_count == 12)
     }
 }
 
@@ -186,6 +193,12 @@ mod tests {
         assert!(!marks.marked());
         let mut marks = de_marks();
         std::mem::swap(&mut marks.read.count, &mut marks.read.line);
+        assert!(!marks.marked());
+        let mut marks = de_marks();
+        std::mem::swap(&mut marks.count.refusal, &mut marks.count.count);
+        assert!(!marks.marked());
+        let mut marks = de_marks();
+        marks.after_count -= 1;
         assert!(!marks.marked());
         let mut marks = de_marks();
         std::mem::swap(&mut marks.distribution.low, &mut marks.distribution.high);

@@ -25,6 +25,8 @@
 //! A sampler with clamp and no ladder can be saved after each trial ([`Sampler::save`]) and restored after a restart ([`Sampler::restore`]);
 //! examples/restart.rs does so. A history can be read from a metrics export ([`CompletedTrial::read_export`]).
 //!
+//! Every combination of a small space is listed by [`sweep`], for a disk model that is measured whole.
+//!
 //! A trial that was killed is told as [`CompletedTrial::failed`], one that was stopped early as
 //! [`CompletedTrial::pruned`].
 //!
@@ -44,6 +46,7 @@ mod layout;
 mod refusal;
 mod sampler;
 mod saved;
+mod sweep;
 mod types;
 
 pub use builder::{BoundsRule, DEStrategy, SamplerBuilder};
@@ -53,6 +56,7 @@ pub use fault::ExportFault;
 pub use refusal::Refusal;
 pub use sampler::{Look, Sampled, Sampler, to_internal, version};
 pub use saved::{FileRefusal, MAX_FILE};
+pub use sweep::{MAX_COMBINATIONS, Sweep, SweepRefusal, sweep, sweep_into};
 pub use types::{
     CategoricalDistribution, CompletedTrial, Distribution, FloatDistribution, IntDistribution, ParamValue, TrialState,
 };

@@ -109,7 +109,7 @@ mod tests {
     /// Of a number that no refusal has, the library says so.
     #[test]
     fn the_number_11_is_unused() {
-        for number in [11, 16, u64::MAX] {
+        for number in [11, 18, u64::MAX] {
             // SAFETY: the text ends in a zero and stays.
             let text = unsafe { CStr::from_ptr(de_refusal_text(number)) };
             assert_eq!(text.to_str(), Ok("no refusal has this number"));
