@@ -4,9 +4,14 @@
 use std::error::Error;
 use std::io::{self, Write as _};
 use std::ops::RangeInclusive;
-use std::thread;
 
 use emkhurtov::{BoundsRule, CompletedTrial, DEStrategy, Distribution, ParamValue, Refusal, Sampler, SamplerBuilder};
+
+mod median;
+mod seeds;
+
+use median::median;
+use seeds::each_seed;
 
 /// The campaigns were chosen on the first seeds. Table 6 has fresh ones.
 const SEEDS: RangeInclusive<u64> = 1..=20;
@@ -95,17 +100,11 @@ impl Plan {
         Ok(campaign)
     }
 
-    /// The campaigns of these seeds, each in a thread of its own: samplers share nothing.
+    /// The campaigns of these seeds.
     fn campaigns(&self, rule: BoundsRule, seeds: RangeInclusive<u64>) -> Result<Vec<Campaign>, Refusal> {
         let setup = self.setup.bounds_rule(rule);
         let plan = &Plan { setup, ..*self };
-        thread::scope(|scope| {
-            let running: Vec<_> = seeds.map(|seed| scope.spawn(move || plan.campaign(seed))).collect();
-            let ended = running.into_iter().map(|thread| thread.join());
-            ended
-                .map(|campaign| campaign.expect("a campaign does not panic"))
-                .collect()
-        })
+        each_seed(seeds, |seed| plan.campaign(seed))
     }
 }
 
@@ -115,12 +114,6 @@ fn scattered(seed: u64, trial: u64) -> f64 {
     let z = (z ^ z >> 30).wrapping_mul(0xbf58_476d_1ce4_e5b9);
     let z = (z ^ z >> 27).wrapping_mul(0x94d0_49bb_1331_11eb);
     (z >> 11) as f64 / (1u64 << 53) as f64
-}
-
-fn median(figures: impl Iterator<Item = f64>) -> f64 {
-    let mut sorted: Vec<f64> = figures.collect();
-    sorted.sort_by(f64::total_cmp);
-    (sorted[(sorted.len() - 1) / 2] + sorted[sorted.len() / 2]) / 2.0
 }
 
 fn percent(part: usize, whole: usize) -> String {

@@ -5,9 +5,14 @@ use std::collections::BTreeSet;
 use std::error::Error;
 use std::io;
 use std::ops::RangeInclusive;
-use std::thread;
 
 use emkhurtov::{CompletedTrial, DEStrategy, Distribution, ParamValue, Refusal, Sampler, SamplerBuilder, Sweep, sweep};
+
+mod median;
+mod seeds;
+
+use median::median;
+use seeds::each_seed;
 
 const MODES: [&str; 3] = ["none", "write-through", "write-back"];
 
@@ -63,11 +68,6 @@ impl Measured {
 
 // ---- Table 9.
 
-fn median(figures: &mut [f64]) -> f64 {
-    figures.sort_by(f64::total_cmp);
-    (figures[(figures.len() - 1) / 2] + figures[figures.len() / 2]) / 2.0
-}
-
 fn whole(setting: ParamValue) -> i64 {
     setting.as_i64().expect("a whole number was asked for")
 }
@@ -85,7 +85,8 @@ fn tried(out: &mut impl io::Write, measured: &Measured) -> io::Result<()> {
             pairs.filter(move |(settings, _)| settings[0] == ParamValue::Categorical(mode))
         };
         let mut results: Vec<f64> = of_mode().map(|(_, result)| *result).collect();
-        let middle = median(&mut results);
+        results.sort_by(f64::total_cmp);
+        let middle = median(results.iter().copied());
         let (settings, _) = of_mode()
             .find(|(_, result)| **result == results[0])
             .expect("it is one of them");
@@ -191,25 +192,13 @@ fn line(
     dimensions: [Distribution; 3],
     known: &Measured,
 ) -> Result<(), Box<dyn Error>> {
-    let campaigns: Vec<Campaign> = thread::scope(|scope| {
-        let running: Vec<_> = SEEDS
-            .map(|seed| scope.spawn(move || plan.campaign(dimensions, known, seed)))
-            .collect();
-        let ended = running.into_iter().map(|thread| thread.join());
-        ended
-            .map(|campaign| campaign.expect("a campaign does not panic"))
-            .collect::<Result<_, _>>()
-    })?;
+    let campaigns: Vec<Campaign> = each_seed(SEEDS, |seed| plan.campaign(dimensions, known, seed))?;
     let n = campaigns.len() as f64;
     let share = |trials| {
         let found = campaigns.iter().filter(|c| c.found.is_some_and(|at| at <= trials));
         format!("{:.0}%", 100.0 * found.count() as f64 / n)
     };
-    let mut when: Vec<f64> = campaigns
-        .iter()
-        .map(|c| c.found.map_or(f64::INFINITY, |at| at as f64))
-        .collect();
-    let when = median(&mut when);
+    let when = median(campaigns.iter().map(|c| c.found.map_or(f64::INFINITY, |at| at as f64)));
     let when = if when.is_finite() {
         format!("{when:.0}")
     } else {

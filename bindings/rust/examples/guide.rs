@@ -7,8 +7,10 @@ use std::ops::RangeInclusive;
 use emkhurtov::{CompletedTrial, DEStrategy, Distribution, ParamValue, Refusal, Sampler, SamplerBuilder};
 
 mod disk;
+mod median;
 
 use disk::{Settings, dimensions, measure};
+use median::median;
 
 /// The set-up was chosen on the first seeds, and is judged on the fresh ones.
 const SEEDS: RangeInclusive<u64> = 1..=20;
@@ -95,12 +97,6 @@ fn lasts(seed: u64, trial: u64) -> f64 {
 
 fn least(told: &[Told]) -> f64 {
     told.iter().map(|t| t.value).fold(f64::INFINITY, f64::min)
-}
-
-fn median(figures: impl Iterator<Item = f64>) -> f64 {
-    let mut sorted: Vec<f64> = figures.collect();
-    sorted.sort_by(f64::total_cmp);
-    (sorted[(sorted.len() - 1) / 2] + sorted[sorted.len() / 2]) / 2.0
 }
 
 /// In how many campaigns of a hundred it holds.

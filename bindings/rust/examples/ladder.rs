@@ -4,9 +4,14 @@
 use std::error::Error;
 use std::io;
 use std::ops::RangeInclusive;
-use std::thread;
 
 use emkhurtov::{CompletedTrial, DEStrategy, Distribution, Refusal, Sampler};
+
+mod median;
+mod seeds;
+
+use median::median;
+use seeds::each_seed;
 
 // ---- Table 7.
 
@@ -142,24 +147,11 @@ fn campaign(seed: u64, depth: Distribution, cost: Cost, best: f64) -> Result<Vec
     Ok(least)
 }
 
-fn median(mut figures: Vec<f64>) -> f64 {
-    figures.sort_by(f64::total_cmp);
-    (figures[(figures.len() - 1) / 2] + figures[figures.len() / 2]) / 2.0
-}
-
 /// A half of a line: the least value after 50 trials and after all of them (medians), and the share of campaigns that
 /// came near to the least possible.
 fn search_half(depth: Distribution, cost: Cost, best: f64) -> Result<String, Refusal> {
-    let campaigns: Vec<Vec<f64>> = thread::scope(|scope| {
-        let running: Vec<_> = SEEDS
-            .map(|seed| scope.spawn(move || campaign(seed, depth, cost, best)))
-            .collect();
-        let ended = running.into_iter().map(|thread| thread.join());
-        ended
-            .map(|campaign| campaign.expect("a campaign does not panic"))
-            .collect::<Result<_, _>>()
-    })?;
-    let after = |trials: usize| median(campaigns.iter().map(|least| least[trials - 1]).collect());
+    let campaigns: Vec<Vec<f64>> = each_seed(SEEDS, |seed| campaign(seed, depth, cost, best))?;
+    let after = |trials: usize| median(campaigns.iter().map(|least| least[trials - 1]));
     let found = campaigns.iter().filter(|least| least[TRIALS - 1] <= NEAR).count();
     Ok(format!(
         "{:>6.2} {:>6.2} {:>5.0}%",
