@@ -78,7 +78,7 @@ breaks o Bytes = false
 -- a row was written, unless standard output cannot be, and nothing else was done
 pub record Wrote {W : Type 0} (a : Session W) (text : List ℕ) (b : Session W) (r : Result ⊤ Stop) : Type 0 where
   pub state : b.state ≡ a.state
-  pub written : OnOk r (Appends a.sink b.sink text)
+  pub written : OnOk r (Appends a.sink.written b.sink.written text)
   pub failed : IfErr r (λ why. why ≡ Unwritten)
 
 -- ---- a question
@@ -89,4 +89,4 @@ pub record Obeyed {W : Type 0} (a : Session W) (x : Told) (question : Question) 
   pub history : y.history ≡ history_after question x.history
   pub kept : y.file ≡ file_after a.state question x.file
   pub malformed : (r ≡ Err Malformed) ↔ IsTrue (breaks a.state question)
-  pub written : OnOk r (Appends a.sink b.sink (answer_text a.state question x.history x.file))
+  pub written : OnOk r (Appends a.sink.written b.sink.written (answer_text a.state question x.history x.file))

@@ -45,7 +45,7 @@ fn save_to(state: &State, file: &mut Kept) -> Result<usize, FileRefusal>
 impl<W: Write> Session<W> {
     pub fn new(to: W) -> Self
         ensures state { result.state ≡ None }
-        ensures sink { Keeps (W.contents to) result.sink }
+        ensures sink { Keeps (W.contents to) result.sink.written }
     {
         Session {
             state: None,

@@ -2,15 +2,15 @@
 ghost use Rattle.std.specs.Prelude.{◌≡◌, ◌≤◌};
 ghost use Rattle.de.specs.Ask.{wanted_count, first_numbers, least_of, most_of, asked_of};
 
-use filled::Filled;
+use filled::padded::Padded;
 use state::State;
 
 // The wanted numbers, and between which numbers they lie.
-#[derive(Drop)]
+#[derive(Clone, Copy)]
 pub struct Asked {
     pub lo: u64,
     pub hi: u64,
-    pub numbers: Filled<u64, 160>,
+    pub numbers: Padded<u64, 160>,
 }
 
 // How many results are wanted. A state that is not sound may have any counts: then none are.
@@ -44,7 +44,7 @@ fn most(numbers: &[u64]) -> u64
 pub fn ask(state: &State) -> Asked
     ensures { result ≡ asked_of (first_numbers state.now.trials (wanted_count state.now.discovered state.now.n state.now.n_trials)) }
 {
-    let mut numbers = Filled::new(0);
+    let mut numbers = Padded::new();
     for i in 0..wanted_count(state) {
         numbers.push(state.trials[i].number);
     }

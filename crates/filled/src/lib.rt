@@ -7,6 +7,8 @@ ghost use Rattle.std.specs.Prelude.{◌≡◌, ◌+◌, ◌<◌, ◌≤◌, ◌+
 
 use std::marker::Model;
 
+pub mod padded;
+
 // The first `length` items of the array, which has room for N.
 #[derive(Drop)]
 pub struct Filled<T: Copy, const N: usize> {

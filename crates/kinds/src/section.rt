@@ -1,4 +1,4 @@
 // The words of a kind: a list with room for 3,600 of them.
-use filled::Filled;
+use filled::padded::Padded;
 
-pub type Section = Filled<u64, 3600>;
+pub type Section = Padded<u64, 3600>;

@@ -88,7 +88,7 @@ pub fn section_of(s: &State, kind: Kind) -> Section
     ensures { result ≡ kind_words s.now (kind_number kind) }
 {
     let dims = s.dims();
-    let mut section = Section::new(0);
+    let mut section = Section::new();
     match kind {
         Kind::Setup => section.extend_from_slice(&setup_row(s.setup)),
         Kind::Counts => section.extend_from_slice(&count_row(s)),
