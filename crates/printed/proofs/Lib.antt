@@ -1,3 +1,4 @@
 pub mod Appending
 pub mod Chunks
+pub mod HexDigits
 pub mod Padded

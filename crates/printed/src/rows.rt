@@ -1,6 +1,6 @@
 // The words of the rows, as far as they need no state.
-ghost use Rattle.std.specs.Prelude.{Some};
-ghost use Rattle.std.specs.Fmt.{WritesOnOk};
+ghost use Rattle.std.specs.Prelude.{◌≡◌, ◌<◌, ◌≤◌, false, flat_map, length, Some};
+ghost use Rattle.std.specs.Fmt.{WritesOnOk, digit_glyph};
 ghost use Rattle.printed.specs.Rows.{hex_text, pattern_text, setting_text, values_text, row_text, rows_text, best_text};
 
 use distribution::ParamValue;
@@ -8,17 +8,23 @@ use numbers::bits_of;
 use slots::Looked;
 use state::view::first;
 use std::fmt::{self, Formatter, Write};
+use std::str::from_utf8_unchecked;
 
 // A word, as N hexadecimal digits.
 #[derive(Clone, Copy)]
 pub struct Digits<const N: usize>(pub u64);
 
+#[tactic(auto, using(crate::proofs::HexDigits::word))]
 impl<const N: usize> fmt::Display for Digits<N> {
     ghost output = { λ d. Some (hex_text N d.0) };
 
     fn fmt<W: Write>(&self, f: &mut Formatter<W>) -> fmt::Result {
         let word = self.0;
         let digits = N;
+        if digits == 16 {
+            // The library's own form takes several times as long.
+            return put_bytes(f, &word.to_be_bytes());
+        }
         write!(f, "{word:0digits$x}")
     }
 }
@@ -68,13 +74,39 @@ pub fn put_values<W: Write>(f: &mut Formatter<W>, values: &[f64]) -> fmt::Result
     Ok(())
 }
 
-// A byte is two digits.
+// A digit's letter.
+fn letter(digit: u8) -> u8
+    requires { digit < 16 }
+    ensures ascii { result < 128 }
+    ensures value { result ≡ digit_glyph false digit }
+{
+    if digit < 10 {
+        b'0' + digit
+    } else {
+        b'a' - 10 + digit
+    }
+}
+
+// Two digits for each byte, all in one write: a write for each takes several times as long. That the digits are text is proved, so std's test of
+// it, which would pass over them once more, is left out.
+#[tactic(auto, using(crate::proofs::HexDigits::bytes))]
+fn put_bytes<W: Write>(f: &mut Formatter<W>, bytes: &[u8]) -> fmt::Result
+    requires { length bytes.now ≤ 32 }
+    ensures { WritesOnOk W.write_str_gives f.old result (flat_map (hex_text 2) bytes.now) f.new }
+{
+    let mut text = [0u8; 64];
+    for (i, byte) in bytes.iter().enumerate() {
+        text[i * 2] = letter(*byte / 16);
+        text[i * 2 + 1] = letter(*byte % 16);
+    }
+    f.write_str(unsafe { from_utf8_unchecked(&text[..bytes.len() * 2]) })
+}
+
 fn put_row<W: Write>(f: &mut Formatter<W>, bytes: &[u8]) -> fmt::Result
     ensures { WritesOnOk W.write_str_gives f.old result (row_text bytes.now) f.new }
 {
-    for byte in bytes {
-        let digits = Digits::<2>(*byte as u64);
-        write!(f, "{digits}")?;
+    for part in bytes.chunks(32) {
+        put_bytes(f, part)?;
     }
     writeln!(f)
 }
