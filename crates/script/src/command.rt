@@ -1,11 +1,11 @@
 // What a line says.
 ghost use Rattle.std.specs.Prelude.{◌≡◌, map};
+ghost use Rattle.script.specs.Words.{words_of};
 ghost use Rattle.script.specs.Commands.{set_up, told, put_line};
 ghost use Rattle.script.specs.Commands.{sample_float, sample_int, range_line, sextuple_line, choice_line, line_of, command_of};
 
 use crate::fields::{bounds_rule, optional, scale, state, strategy};
 use crate::hex::is_hex;
-use crate::words::{count, first_words};
 use distribution::{CategoricalDistribution, Distribution, FloatDistribution, IntDistribution};
 use evolution::{BoundsRule, Setup};
 use history::{CompletedTrial, TrialState};
@@ -197,6 +197,24 @@ fn rule(words: &[&[u8]]) -> Option<Command>
     }
 }
 
+// The rule that a line meets. One pass takes its words, since each look-up by `word` goes over the line from its start. Out of line, so that a reader's
+// loop over bytes, into which its caller is built, stays small.
+#[inline(never)]
+fn ruled(line: &[u8]) -> Option<Command>
+    ensures { result ≡ line_of (words_of line.now) }
+{
+    let mut words: [&[u8]; 7] = [&[]; 7];
+    let mut n = 0;
+    for word in line.split(|b| *b == b' ') {
+        if n == words.len() {
+            return None;
+        }
+        words[n] = word;
+        n += 1;
+    }
+    rule(&words[..n])
+}
+
 // What a line says, its line feed left out; none where it breaks the rules.
 pub fn parse(line: &[u8]) -> Option<Command>
     ensures { result ≡ command_of line.now }
@@ -204,5 +222,5 @@ pub fn parse(line: &[u8]) -> Option<Command>
     if line.is_empty() || line[0] == b'#' {
         return Some(Command::Skip);
     }
-    rule(first_words(line).get(..count(line))?)
+    ruled(line)
 }
