@@ -17,15 +17,20 @@ use std::io::{Read, Write};
 mod input;
 mod rows;
 
-// A `tell` line for each entry, written in blocks.
+// A `tell` line for each entry, written in blocks, each filled up with rows of whatever length, so that the writes are few.
 fn write_tells<W: Write>(to: &mut W, numbers: &[u64], values: &[f64]) -> io::Result<()> {
     let mut block: Filled<u8, 8192> = Filled::new(0);
-    let rows = rows::room(&block);
-    for (numbers, values) in numbers.chunks(rows).zip(values.chunks(rows)) {
-        rows::fill(&mut block, numbers, values);
+    let mut numbers = numbers;
+    let mut values = values;
+    loop {
+        let rows = rows::fill_up(&mut block, numbers, values);
+        if rows == 0 {
+            return Ok(());
+        }
         to.write_all(block.as_slice())?;
+        numbers = &numbers[rows..];
+        values = &values[rows..];
     }
-    Ok(())
 }
 
 fn write_refusal<W: Write>(to: &mut W, why: ExportRefusal) -> io::Result<()> {

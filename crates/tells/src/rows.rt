@@ -1,7 +1,7 @@
 // The rows that are written, each appended to a block.
 // `writeln!` through printed's `Sink` would be plainer, but `printed` stands on the whole sampler, and this program on none of it. So a
 // double's text is defined here again (specs/Text).
-ghost use Rattle.std.specs.Prelude.{◌+◌, ◌-◌, ◌/◌, ◌≤◌, ◌≡◌, ◌++◌, length, take};
+ghost use Rattle.std.specs.Prelude.{ℕ, ◌<◌, ◌+◌, ◌-◌, ◌*◌, ◌/◌, ◌≤◌, ◌≡◌, ◌++◌, length, min, take};
 ghost use Rattle.tells.specs.Text.{whole_text, pattern_text, tell_text, carried, refused_text, tell_texts};
 
 use filled::Filled;
@@ -77,14 +77,32 @@ pub fn refused_row(why: ExportRefusal) -> Filled<u8, 32>
     row
 }
 
-// The rows of the first entries, as many as have room in an empty block, one behind the other.
+// The rows of the entries, one behind the other from an empty block on, each begun only where the longest has room; answers how many.
+#[tactic(auto, using(crate::proofs::Joined::up))]
+pub fn fill_up<const N: usize>(block: &mut Filled<u8, N>, numbers: &[u64], values: &[f64]) -> usize
+    ensures few { (result ≤ length numbers.now) × (result ≤ length values.now) × (length block.new ≤ 43 * result) }
+    ensures begun { (k : ℕ) → k < result → length (tell_texts (take k numbers.now) values.now) + 43 ≤ N }
+    ensures most { length block.new + 43 ≤ N → result ≡ min (length numbers.now) (length values.now) }
+    ensures text { block.new ≡ tell_texts (take result numbers.now) values.now }
+{
+    block.clear();
+    let mut n: usize = 0;
+    for (number, value) in numbers.iter().zip(values) {
+        if room(block) == 0 {
+            break;
+        }
+        tell_row(block, *number, *value);
+        n += 1;
+    }
+    n
+}
+
+// The rows of the first entries, as many as an empty block has room for if each is the longest, one behind the other.
 #[tactic(auto, using(crate::proofs::Joined::behind))]
 pub fn fill<const N: usize>(block: &mut Filled<u8, N>, numbers: &[u64], values: &[f64])
     ensures { block.new ≡ tell_texts (take (N / 43) numbers.now) values.now }
 {
     block.clear();
-    let first = &numbers[..room(block).min(numbers.len())];
-    for (number, value) in first.iter().zip(values) {
-        tell_row(block, *number, *value);
-    }
+    let first = room(block).min(numbers.len());
+    fill_up(block, &numbers[..first], values);
 }
