@@ -14,17 +14,18 @@ mod summed;
 mod sweeps;
 mod work;
 
+use std::io;
 use std::rt::Env;
-use std::{env, io};
 
-// Whether the first argument is `run`.
-fn asked(rt: &(impl Alloc + Env)) -> io::Result<bool> {
-    let mut words = env::args(rt)?;
-    Ok(words.nth(1).is_some_and(|word| word.as_str() == "run"))
+// Whether the first argument is `run`. It is read by itself and as bytes: `env::args` fails on any argument that is no text.
+fn asked(rt: &impl Env) -> bool {
+    let mut word = [0u8; 4];
+    let length = rt.arg(1, &mut word);
+    length.is_ok_and(|n| n == 3) && word.starts_with(b"run")
 }
 
 fn main(rt: HostRuntime) -> io::Result<()> {
-    if asked(&rt)? {
+    if asked(&rt) {
         measure::measure(&rt)
     } else {
         println!(rt;
