@@ -97,10 +97,55 @@ fn option<T: Copy>(set: u64, value: T) -> Result<Option<T>, Unnamed>
 }
 
 // The strategy that C's number stands for; any other number stands for none.
-pub fn open_strategy(strategy: u64) -> Result<DEStrategy, Unnamed>
+pub fn strategy_in(strategy: u64) -> Result<DEStrategy, Unnamed>
     ensures { result ≡ named (leb strategy 2) (strategy_of strategy) }
 {
     DEStrategy::from_number(strategy).ok_or(Unnamed)
+}
+
+// What C's numbers open to, also where one names no case: this and the next two cannot fail. No call of the library goes by them, since
+// each number is judged there (`strategy_in`, and `TryFrom` below).
+pub fn open_strategy(strategy: u64) -> DEStrategy
+    ensures { result ≡ strategy_of strategy }
+{
+    DEStrategy::from_number(strategy).unwrap_or(DEStrategy::CurrentToBest1)
+}
+
+#[tactic(auto, unfolding(crate::specs::Flat::setup_of))]
+pub fn open_setup(s: DeSetup) -> Setup
+    ensures { result ≡ setup_of s }
+{
+    Setup {
+        mutation_factor: s.mutation_factor,
+        crossover_rate: s.crossover_rate,
+        strategy: open_strategy(s.strategy),
+        population_size: (s.sized != 0).then_some(s.population_size),
+        seed: s.seed,
+        bounds_rule: BoundsRule::from_number(s.bounds_rule).unwrap_or(BoundsRule::Midpoint),
+    }
+}
+
+#[tactic(auto, unfolding(crate::specs::Flat::distribution_of))]
+pub fn open_distribution(d: DeDistribution) -> Distribution
+    ensures { result ≡ distribution_of d }
+{
+    match d.kind {
+        1 => Distribution::Float(FloatDistribution {
+            low: d.low,
+            high: d.high,
+            log_scale: d.log_scale == 1,
+            step: (d.stepped != 0).then_some(d.step),
+        }),
+        2 => Distribution::Int(IntDistribution {
+            low: d.whole_low,
+            high: d.whole_high,
+            log_scale: d.log_scale == 1,
+            step: (d.stepped != 0).then_some(d.whole_step),
+        }),
+        _ => Distribution::Categorical(CategoricalDistribution {
+            n_choices: d.n_choices,
+        }),
+    }
 }
 
 // The bounds rule that C's number stands for, likewise.
@@ -120,7 +165,7 @@ impl TryFrom<DeSetup> for Setup {
         Ok(Setup {
             mutation_factor: s.mutation_factor,
             crossover_rate: s.crossover_rate,
-            strategy: open_strategy(s.strategy)?,
+            strategy: strategy_in(s.strategy)?,
             population_size: option(s.sized, s.population_size)?,
             seed: s.seed,
             bounds_rule: open_rule(s.bounds_rule)?,

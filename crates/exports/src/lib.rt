@@ -23,7 +23,7 @@ use de::sample::sample_over;
 use distribution::Distribution;
 use edge::answers::{DeAnswer, DeCall, open_call, settle};
 use edge::build::{fresh, settle_setup};
-use edge::flat::{DeDistribution, DeSetup, DeState, Unnamed, open, open_strategy};
+use edge::flat::{DeDistribution, DeSetup, DeState, Unnamed, open, strategy_in};
 use edge::flatten::flatten;
 use edge::held::held_at;
 use edge::internal::{DeInternal, DeSetting, internal_of};
@@ -127,7 +127,7 @@ pub fn de_to_internal(distribution: DeDistribution, setting: DeSetting) -> DeInt
 pub fn de_draw_ceiling(n: u64, n_dims: u64, strategy: u64) -> u64
     ensures { result ≡ ceiling_at n n_dims strategy }
 {
-    match open_strategy(strategy) {
+    match strategy_in(strategy) {
         Ok(strategy) => draw_ceiling(n, n_dims, strategy),
         Err(_) => 0,
     }
